@@ -1,13 +1,10 @@
 -- Numbers that digits write.
-use Rattle.std.proofs.Common.{rules, ◌≡◌, ◌<◌, ◌^◌, ℕ, List, length, true, None, arith, inl, inr}
+use Rattle.cli.proofs.Common.{rules, ◌≡◌, ◌<◌, ◌^◌, ℕ, List, length, true, None, arith, inl, inr, IsUtf8, all_ascii_digits, IsNumeralModel, numerals_by_fold, number_of}
 use Rattle.std.proofs.lemmas.Bool.{cases_lt}
 use Rattle.std.proofs.lemmas.Bool.Decides.{nat_tests}
 use Rattle.std.proofs.lemmas.Fmt.{IsAscii-from_digits}
 use Rattle.std.proofs.lemmas.Str.{IsUtf8-from_ascii}
-use Rattle.std.proofs.lemmas.Str.Parse.{IsNumeralModel, numerals_by_fold}
-use Rattle.std.specs.Str.{IsUtf8, all_ascii_digits}
 use Rattle.std.specs.Str.Parse.{digits_value, digits_value_after}
-use Rattle.cli.specs.Numbers.{number_of}
 
 pub own : IsNumeralModel (λ ds. all_ascii_digits ds ≡ true) (digits_value 10)
 own = numerals_by_fold _ (search rules) (digits_value_after 10) (search rules)

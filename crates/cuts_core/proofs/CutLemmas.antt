@@ -1,12 +1,6 @@
 -- What comes of cutting a file, by what comes of cutting what it holds.
-use Rattle.std.proofs.Common.{◌≡◌, ◌<◌, ◌+◌, ℕ, ◌++◌, ◌∷◌, [], List, length, length-append, take, Bool, true, false, Option, Some, None, Result, Ok, Err, OnOk, IsTrue, inr, append-nil, arith, ap, refl}
-use Rattle.std.specs.List.{concat}
-use Rattle.streams.specs.declared.failure.Failure.{Failure}
+use Rattle.cuts_core.proofs.Common.{◌≡◌, ◌<◌, ◌+◌, ℕ, ◌++◌, ◌∷◌, [], List, length, length-append, take, Bool, true, false, Option, Some, None, Result, Ok, Err, OnOk, IsTrue, inr, append-nil, arith, ap, refl, EndsFile, IsTorn, Opening, concat, Failure, TooMany, Cutting, chunks, first_cut, CutsAll, CutsRead, IsBegun, Taken}
 use Rattle.streams.specs.declared.failure.Failure.TheVariants.{NoMemory}
-use Rattle.cuts_core.specs.Cut.{EndsFile, IsTorn, Opening}
-use Rattle.cuts_core.specs.declared.failure.TooMany.{TooMany}
-use Rattle.hash_cuts.specs.Cuts.{Cutting, chunks, first_cut}
-use Rattle.hash_cuts.specs.Reading.{CutsAll, CutsRead, IsBegun, Taken}
 
 -- the bytes of chunks and one more
 pub bytes_more : (given : List (List ℕ)) (chunk : List ℕ) → length (concat (given ++ chunk ∷ [])) ≡ length (concat given) + length chunk

@@ -1,3 +1,4 @@
+pub mod Common
 pub mod CutLemmas
 pub mod ListingLemmas
 pub mod TallyLemmas

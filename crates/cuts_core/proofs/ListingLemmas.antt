@@ -1,19 +1,7 @@
 -- The lines of chunks, one after the other.
-use Rattle.std.proofs.Common.{◌≡◌, ℕ, ◌+◌, Bool, List, [], ◌∷◌, ◌++◌, Option, Some, None, Result, Ok, Err, length, length-append, append_assoc, append-nil, arith, ap, subst, sym, ◌∙◌}
-use Rattle.std.specs.List.{concat}
-use Rattle.std.specs.Io.KnownBytes.{Appends}
+use Rattle.cuts_core.proofs.Common.{◌≡◌, ℕ, ◌+◌, Bool, List, [], ◌∷◌, ◌++◌, Option, Some, None, Result, Ok, Err, length, length-append, append_assoc, append-nil, arith, ap, subst, sym, ◌∙◌, EndsFile, one, AreListed, EndsLines, chunk_line, chunk_lines, LineKind, concat, Failure, TooMany, Cutting, AppendsPart, Taken, Appends, part_behind, part_whole, Opens}
 use Rattle.std.proofs.KnownBytes.{Appends-nil, Appends-trans}
-use Rattle.streams.proofs.StreamLemmas.{part_behind, part_whole}
-use Rattle.streams.specs.Streams.{AppendsPart}
-use Rattle.cli.specs.Files.{Opens}
-use Rattle.streams.specs.declared.failure.Failure.{Failure}
 use Rattle.cuts_core.proofs.CutLemmas.{bytes_more}
-use Rattle.cuts_core.specs.Cut.{EndsFile, one}
-use Rattle.cuts_core.specs.Listing.{AreListed, EndsLines, chunk_line, chunk_lines}
-use Rattle.cuts_core.specs.declared.failure.TooMany.{TooMany}
-use Rattle.hash_cuts.specs.Cuts.{Cutting}
-use Rattle.hash_cuts.specs.Reading.{Taken}
-use Rattle.hash_lines.specs.declared.line.LineKind.{LineKind}
 
 module _ (kind : LineKind) (name : List ℕ) where
   -- the lines of some chunks and of more

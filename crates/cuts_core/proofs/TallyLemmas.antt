@@ -1,22 +1,12 @@
 -- The chunks whose hash no chunk before them has, and one chunk more.
-use Rattle.std.proofs.Common.{◌≡◌, ℕ, ◌+◌, ◌-◌, ◌==◌, ◌||◌, ◌&&◌, Bool, true, false, not, if◌then◌else◌, None, Result, Ok, Err, IfOk, List, [], ◌∷◌, ◌++◌, length, length-append, append-nil, arith, ap, refl, subst, sym, ◌∙◌, ap₂, nat_cmp}
+use Rattle.cuts_core.proofs.Common.{◌≡◌, ℕ, ◌+◌, ◌-◌, ◌==◌, ◌||◌, ◌&&◌, Bool, true, false, not, if◌then◌else◌, None, Result, Ok, Err, IfOk, List, [], ◌∷◌, ◌++◌, length, length-append, append-nil, arith, ap, refl, subst, sym, ◌∙◌, ap₂, nat_cmp, Cut, EndsFile, IsFileCut, Opening, given_of, is_whole, name_of, CountsChunks, CountsFile, IsCounted, sum_by, AreCut, all_given, bytes_of, firsts, numbers_of, tally_lines, list_any, Failure, TooMany, Cutting, Opens, Tally}
 use Rattle.std.specs.BTreeSet.{contains}
-use Rattle.std.specs.List.{list_any}
 use Rattle.std.proofs.lemmas.Grind.{flat_map-append}
 use Rattle.std.proofs.lemmas.Bool.Decides.{nat_tests}
 use Rattle.std.proofs.lemmas.List.{map-append}
 use Rattle.std.proofs.lemmas.List.Elements.{All-push, filter-append}
 use Rattle.std.proofs.lemmas.List.Folds.{list_all-append, list_any-append}
-use Rattle.cli.specs.Files.{Opens}
 use Rattle.cuts_core.proofs.CutLemmas.{bytes_more}
-use Rattle.cuts_core.specs.Counted.{CountsChunks, CountsFile, IsCounted}
-use Rattle.streams.specs.declared.failure.Failure.{Failure}
-use Rattle.cuts_core.specs.declared.failure.TooMany.{TooMany}
-use Rattle.cuts_core.specs.Cut.{Cut, EndsFile, IsFileCut, Opening, given_of, is_whole, name_of}
-use Rattle.hash_cuts.specs.Cuts.{Cutting}
-use Rattle.hashsum_core.specs.Sums.{sum_by}
-use Rattle.cuts_core.specs.declared.tally.Tally.{Tally}
-use Rattle.cuts_core.specs.Tally.{AreCut, all_given, bytes_of, firsts, numbers_of, tally_lines}
 
 -- a chunk if it comes first
 abbrev new_one : (chunk : List ℕ) → (is_old : Bool) → List (List ℕ)

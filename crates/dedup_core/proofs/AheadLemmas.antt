@@ -1,6 +1,5 @@
 -- The next lines, as they are found.
-use Rattle.dedup_core.proofs.Common.{ℕ, ◌≡◌, ◌+◌, List, [], ◌∷◌, ◌++◌, ◌≤◌, length, drop, ap, subst, arith, length-drop}
-use Rattle.dedup_core.specs.Between.{AreNext, IsFound}
+use Rattle.dedup_core.proofs.Common.{ℕ, ◌≡◌, ◌+◌, List, [], ◌∷◌, ◌++◌, ◌≤◌, length, drop, ap, subst, arith, length-drop, AreNext, IsFound}
 use Rattle.dedup_core.specs.declared.ahead.Found.{Found}
 
 -- what comes behind these lines

@@ -1,9 +1,7 @@
 -- A number on the right of a column.
-use Rattle.dedup_core.proofs.Common.{◌≡◌, ℕ, ◌-◌, List, [], ◌∷◌, ◌++◌, length, ap, ◌∙◌, arith, append_assoc, decimal, styled_decimal, format_spec, repeat}
-use Rattle.std.proofs.Common.{append-nil}
+use Rattle.dedup_core.proofs.Common.{◌≡◌, ℕ, ◌-◌, List, [], ◌∷◌, ◌++◌, length, ap, ◌∙◌, arith, append_assoc, decimal, styled_decimal, format_spec, repeat, append-nil, column}
 use Rattle.std.specs.Fmt.{padded_integral, char_count}
 use Rattle.std.proofs.lemmas.Str.{encode_ascii}
-use Rattle.dedup_core.specs.Tallies.{column}
 
 -- what the format of seven columns on the right writes
 pub column_is : (n : ℕ) → styled_decimal (format_spec 32 3 0 7 18446744073709551615) n ++ 32 ∷ [] ≡ column n

@@ -1,5 +1,5 @@
--- What the proofs of this crate share of std and of the crates below, passed on from one place.
-pub use Rattle.std.proofs.Common.{ℕ, ◌≡◌, ◌+◌, List, [], ◌∷◌, ◌++◌, ◌≤◌, length, drop, ap, subst, arith, length-drop, ◌-◌, ◌∙◌, append_assoc, ◌≢◌, ◌<◌, ◌&&◌, inr, Bool, true, false, Result, Ok, Err, map, set, get_or, take, Option, None, Some, sym, refl, take-append-drop, length-append, drop-cons, is_some, IsErr, inl, OnOk, not, if◌then◌else◌, fold, is_ok, cond, slice_index_or, count_by, bytes_eq, rules, OnErr, ◌^◌, length-take, IfOk}
+-- What the proofs of this crate share of std, of the crates below and of its own definitions, passed on from one place.
+pub use Rattle.std.proofs.Common.{ℕ, ◌≡◌, ◌+◌, List, [], ◌∷◌, ◌++◌, ◌≤◌, length, drop, ap, subst, arith, length-drop, ◌-◌, ◌∙◌, append_assoc, ◌≢◌, ◌<◌, ◌&&◌, inr, Bool, true, false, Result, Ok, Err, map, set, get_or, take, Option, None, Some, sym, refl, take-append-drop, length-append, drop-cons, is_some, IsErr, inl, OnOk, not, if◌then◌else◌, fold, is_ok, cond, slice_index_or, count_by, bytes_eq, rules, OnErr, ◌^◌, length-take, IfOk, append-nil, flat_map, min, length-take-le}
 pub use Rattle.std.proofs.KnownBytes.{Appends-kept, Appends-nil, Consumes-trans, Consumes-whole, Appends-trans, Keeps-refl}
 pub use Rattle.std.proofs.lemmas.Bool.{and_parts, false≢true, cases_lt, true≢false, eqb-false}
 pub use Rattle.std.proofs.lemmas.Grind.{flat_map-append, common_steps, elements, same_number_lists}
@@ -16,3 +16,8 @@ pub use Rattle.text_set.proofs.LineLemmas.{bare_end, bare_line, first_ends, firs
 pub use Rattle.text_set.proofs.SetLemmas.{has_all, has_there, once_with, once_begins}
 pub use Rattle.text_set.specs.Lines.{lines_by, IsBare, IsLineEnd, as_line_by}
 pub use Rattle.text_set.specs.Texts.{has, with_text, EachOnce, StandsAt}
+pub use Rattle.dedup_core.specs.Between.{AreNext, IsFound, Filled, Splits, Takes}
+pub use Rattle.dedup_core.specs.Tallies.{column, Tallies, shown, told, times_of}
+pub use Rattle.dedup_core.specs.Taking.{At, BeginWith, BreaksInput, Broke, Leads, Grows}
+pub use Rattle.dedup_core.specs.Inputs.{AreRead, ReadsInput, whole_lines}
+pub use Rattle.dedup_core.specs.Running.{AllBeginWith, BreaksBehind, EndsBehind, EndsTaking, NextBeginsWith, Run, run_of}

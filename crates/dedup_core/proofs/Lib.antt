@@ -7,3 +7,4 @@ pub mod SeenLemmas
 pub mod TallyLemmas
 pub mod UnreadLemmas
 mod AheadLemmas
+pub mod Lemmas

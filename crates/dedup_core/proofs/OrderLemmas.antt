@@ -1,7 +1,5 @@
 -- Texts that are written in order, with how often each came.
-use Rattle.dedup_core.proofs.Common.{◌≡◌, ℕ, ◌+◌, ◌<◌, List, [], ◌∷◌, ◌++◌, length, get_or, drop, map, ap, refl, append_assoc, drop_more}
-use Rattle.std.proofs.Common.{flat_map}
-use Rattle.dedup_core.specs.Tallies.{Tallies, shown, told}
+use Rattle.dedup_core.proofs.Common.{◌≡◌, ℕ, ◌+◌, ◌<◌, List, [], ◌∷◌, ◌++◌, length, get_or, drop, map, ap, refl, append_assoc, drop_more, flat_map, Tallies, shown, told}
 use Rattle.dedup_core.specs.declared.tally.Which.{Which}
 
 module _ (eol : ℕ) (which : Which) where

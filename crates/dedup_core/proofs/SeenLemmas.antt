@@ -1,8 +1,6 @@
 -- The set of the texts that were seen.
-use Rattle.dedup_core.proofs.Common.{◌≡◌, ℕ, Result, Ok, Err, OnOk, Bool, true, false, not, List, [], ◌∷◌, ◌++◌, ap, ◌∙◌, map, if◌then◌else◌, Option, fold, arith, is_ok, strip_last, false≢true, map-append, fold-append, flat_map-append, Appends-trans, Appends, AppendsPart, as_line_by, part_behind, has, with_text}
-use Rattle.std.proofs.Common.{append-nil}
+use Rattle.dedup_core.proofs.Common.{◌≡◌, ℕ, Result, Ok, Err, OnOk, Bool, true, false, not, List, [], ◌∷◌, ◌++◌, ap, ◌∙◌, map, if◌then◌else◌, Option, fold, arith, is_ok, strip_last, false≢true, map-append, fold-append, flat_map-append, Appends-trans, Appends, AppendsPart, as_line_by, part_behind, has, with_text, append-nil, At, Broke, Leads}
 use Rattle.text_set.specs.Firsts.{firsts_by, once_by}
-use Rattle.dedup_core.specs.Taking.{At, Broke, Leads}
 
 -- what is told to be new is not there, and what is told to be old is
 pub not_there : (there new : Bool) → new ≡ not there → new ≡ true → there ≡ false

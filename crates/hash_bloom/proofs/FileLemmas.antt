@@ -1,8 +1,7 @@
 -- A filter's file, piece by piece.
-use Rattle.hash_bloom.proofs.Common.{◌≡◌, ℕ, suc, ◌+◌, ◌*◌, ◌<◌, ◌^◌, ◌≤◌, List, [], ◌∷◌, ◌++◌, length, take, drop, get_or, Option, Some, None, refl, sym, ap, ◌∙◌, subst, append_assoc, arith, codes, take-append-drop, Appends, Consumes, flat_map-append, append_cancel_left, append_cancel_right, flat_map_more, length-append, take_all, take_more, from_le_bytes-to_le_bytes_8, from_le_bytes, to_le_bytes, fnv1a64_basis, fnv1a64_from, fnv1a64_step, AppendsPart, part_behind, part_longer, hex, hex_value, hex_value-hex, length-hex, IsStored, bytes_of, field, file_of, header, seal, sealed, title, Filter, filter_of}
+use Rattle.hash_bloom.proofs.Common.{◌≡◌, ℕ, suc, ◌+◌, ◌*◌, ◌<◌, ◌^◌, ◌≤◌, List, [], ◌∷◌, ◌++◌, length, take, drop, get_or, Option, Some, None, refl, sym, ap, ◌∙◌, subst, append_assoc, arith, codes, take-append-drop, Appends, Consumes, flat_map-append, append_cancel_left, append_cancel_right, flat_map_more, length-append, take_all, take_more, from_le_bytes-to_le_bytes_8, from_le_bytes, to_le_bytes, fnv1a64_basis, fnv1a64_from, fnv1a64_step, AppendsPart, part_behind, part_longer, hex, hex_value, hex_value-hex, length-hex, IsStored, bytes_of, field, file_of, header, seal, sealed, title, Filter, filter_of, w64}
 use Rattle.std.proofs.KnownBytes.{Appends-trans, Consumes-trans}
 use Rattle.std.proofs.Math.Seq.{take-append_seam}
-use mir.Syntax.{w64}
 use Rattle.hashers.proofs.RecurrenceLaws.{recurrence-append}
 
 -- one word more behind the header

@@ -9,3 +9,4 @@ pub mod Places
 pub mod Runs
 pub mod Shares
 pub mod WordLemmas
+pub mod Lemmas

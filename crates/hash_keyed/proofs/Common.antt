@@ -25,3 +25,4 @@ pub use Rattle.std.proofs.lemmas.List.Concat.{concat_is}
 pub use Rattle.std.proofs.lemmas.Grind.{common_steps}
 pub use Rattle.std.proofs.lemmas.List.Sorted.{All-permutation, IsPermutation-reverse}
 pub use Rattle.std.proofs.Math.Arith.{mod-mul}
+pub use Rattle.hash_words.proofs.WordLemmas.{le_by_places}

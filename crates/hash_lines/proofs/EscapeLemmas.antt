@@ -1,8 +1,5 @@
 -- Names with escapes.
-use Rattle.std.proofs.Common.{◌≡◌, ◌≢◌, ℕ, ◌+◌, ◌<◌, List, [], ◌∷◌, ◌++◌, length, take, get_or, ap, sym, ◌∙◌, append_assoc, append-nil, arith}
-use Rattle.std.proofs.lemmas.Bool.Decides.{nat_tests}
-use Rattle.std.proofs.lemmas.List.{take_more}
-use Rattle.hash_lines.specs.Escape.{escape, escaped_byte}
+use Rattle.hash_lines.proofs.Common.{◌≡◌, ◌≢◌, ℕ, ◌+◌, ◌<◌, List, [], ◌∷◌, ◌++◌, length, take, get_or, ap, sym, ◌∙◌, append_assoc, append-nil, arith, escape, escaped_byte, nat_tests, take_more}
 
 pub escape-append : (name more : List ℕ) → escape (name ++ more) ≡ escape name ++ escape more
 escape-append [] more = grind arith

@@ -1,14 +1,7 @@
 -- Lines in other programs' forms.
-use Rattle.std.proofs.Common.{◌≡◌, ◌≢◌, inl, inr, ℕ, Bool, true, false, All, List, [], ◌∷◌, ◌++◌, Option, Some, None, MatchOption, Vec, refl, sym, ap, ◌∙◌, subst, Global}
-use Rattle.std.specs.Char.{is_ascii_whitespace}
+use Rattle.hash_lines.proofs.Common.{◌≡◌, ◌≢◌, inl, inr, ℕ, Bool, true, false, All, List, [], ◌∷◌, ◌++◌, Option, Some, None, MatchOption, Vec, refl, sym, ap, ◌∙◌, subst, Global, Finds, Tells, TellsNothing, LineKind, is_sum, EndsInDigits, FindsForm, FindsOf, HasCrc, HasTag, HasWord, IsBlankForm, IsForm, IsSfvForm, IsTaggedForm, Lacks, TellsIn, TellsNoneIn, TellsSo, is_ascii_whitespace, All-head, All-tail, HashLine, Bor}
 use Rattle.std.specs.Str.{IsTrimAsciiEnd, IsTrimAsciiStart}
 use Rattle.std.proofs.lemmas.Str.Ascii.{trim_ascii_end_is, trim_ascii_start_is}
-use Rattle.std.proofs.lemmas.List.Elements.{All-head, All-tail}
-use Rattle.hash_lines.specs.declared.line.LineKind.{LineKind}
-use Rattle.hash_lines.specs.declared.parse.HashLine.{HashLine}
-use denote.Ref.{Bor}
-use Rattle.hash_lines.specs.Forms.{is_sum, EndsInDigits, FindsForm, FindsOf, HasCrc, HasTag, HasWord, IsBlankForm, IsForm, IsSfvForm, IsTaggedForm, Lacks, TellsIn, TellsNoneIn, TellsSo}
-use Rattle.hash_lines.specs.Told.{Finds, Tells, TellsNothing}
 use Rattle.hash_lines.proofs.TellsLemmas.{found_as}
 use Rattle.hash_lines.proofs.LineLemmas.{first_one, same_ends}
 

@@ -1,9 +1,6 @@
 -- Digits one by one.
-use Rattle.std.proofs.Common.{◌≡◌, ◌⊎◌, inl, inr, ℕ, ◌+◌, ◌-◌, ◌*◌, ◌/◌, ◌%◌, ◌^◌, ◌<◌, ◌≤◌, suc, zero, List, [], ◌∷◌, ◌++◌, length, drop, set, Option, Some, None, refl, sym, ap, ◌∙◌, lit<, append_assoc, append-nil, add-one, mul_assoc, arith}
-use Rattle.std.proofs.lemmas.List.{drop-set, drop_all, length-append}
+use Rattle.hash_lines.proofs.Common.{◌≡◌, ◌⊎◌, inl, inr, ℕ, ◌+◌, ◌-◌, ◌*◌, ◌/◌, ◌%◌, ◌^◌, ◌<◌, ◌≤◌, suc, zero, List, [], ◌∷◌, ◌++◌, length, drop, set, Option, Some, None, refl, sym, ap, ◌∙◌, lit<, append_assoc, append-nil, add-one, mul_assoc, arith, digit, digit_value, hex, hex_value, value_behind, nat_tests, drop-set, drop_all, length-append}
 use Rattle.std.proofs.Math.Nat.{pow-le-pow_right}
-use Rattle.std.proofs.lemmas.Bool.Decides.{nat_tests}
-use Rattle.hash_lines.specs.Hex.{digit, digit_value, hex, hex_value, value_behind}
 
 -- a digit put in front of those that stand at the end
 pub put_digit : (left rest at : ℕ) (places text : List ℕ) → at < length places

@@ -1,3 +1,4 @@
+pub mod Common
 pub mod EscapeLemmas
 pub mod HexLemmas
 pub mod LineLemmas
@@ -6,3 +7,4 @@ pub mod TellsLemmas
 pub mod OneLemmas
 pub mod TagLemmas
 pub mod FormLemmas
+pub mod Lemmas

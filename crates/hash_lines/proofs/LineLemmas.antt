@@ -1,12 +1,6 @@
 -- The parts of a line.
-use Rattle.std.proofs.Common.{◌≡◌, ◌≢◌, ◌⊎◌, inl, inr, ℕ, suc, true, false, All, List, [], ◌∷◌, refl, ◌++◌, Option, Some, None, MatchOption, length, take, drop, codes, sym, ap, ◌∙◌, subst, append_assoc, arith, bytes_eq}
+use Rattle.hash_lines.proofs.Common.{◌≡◌, ◌≢◌, ◌⊎◌, inl, inr, ℕ, suc, true, false, All, List, [], ◌∷◌, refl, ◌++◌, Option, Some, None, MatchOption, length, take, drop, codes, sym, ap, ◌∙◌, subst, append_assoc, arith, bytes_eq, ShowsNumber, ShowsTagged, ShowsUntagged, hex_value, append_cancel_left, length-append, All-head, All-tail, Bor, bytes_decides}
 use Rattle.std.proofs.Math.Seq.{take-append_seam, drop-append_seam}
-use Rattle.std.proofs.lemmas.List.Elements.{All-head, All-tail}
-use Rattle.std.proofs.lemmas.List.{append_cancel_left, length-append}
-use lib.Pointwise.{bytes_decides}
-use denote.Ref.{Bor}
-use Rattle.hash_lines.specs.Line.{ShowsNumber, ShowsTagged, ShowsUntagged}
-use Rattle.hash_lines.specs.Hex.{hex_value}
 
 -- two texts with the first byte behind them of which P does not hold are cut at the same place
 pub first_one : (P : ℕ → Type 0) (m n : ℕ) → ¬ (P m) → ¬ (P n) → (xs ys us vs : List ℕ) → All P xs → All P us

@@ -1,15 +1,7 @@
 -- A line shows one name and number, and so tells one thing.
-use Rattle.std.proofs.Common.{◌≡◌, ◌≢◌, ◌⊎◌, inl, inr, ℕ, ◌+◌, ◌*◌, ◌<◌, Bool, true, false, List, [], ◌∷◌, ◌++◌, Some, None, length, get_or, codes, refl, ap, sym, ◌∙◌, subst, arith, lit<}
-use Rattle.std.specs.List.{AllByRecursion}
-use Rattle.hash_lines.specs.declared.line.LineKind.{LineKind}
+use Rattle.hash_lines.proofs.Common.{◌≡◌, ◌≢◌, ◌⊎◌, inl, inr, ℕ, ◌+◌, ◌*◌, ◌<◌, Bool, true, false, List, [], ◌∷◌, ◌++◌, Some, None, length, get_or, codes, refl, ap, sym, ◌∙◌, subst, arith, lit<, AreTags, IsTag, Tells, digits_of, name_shown, ShowsTagged, ShowsUntagged, escape, digit_value, hex_value, value_behind, LineKind, nat_tests, All-from_recursion, AllByRecursion}
 use Rattle.hash_lines.specs.declared.line.Width.{Width}
 use Rattle.hash_lines.specs.declared.line.Width.TheVariants as width
-use Rattle.hash_lines.specs.Escape.{escape}
-use Rattle.hash_lines.specs.Hex.{digit_value, hex_value, value_behind}
-use Rattle.hash_lines.specs.Line.{digits_of, name_shown, ShowsTagged, ShowsUntagged}
-use Rattle.hash_lines.specs.Told.{AreTags, IsTag, Tells}
-use Rattle.std.proofs.lemmas.Bool.Decides.{nat_tests}
-use Rattle.std.proofs.lemmas.List.Elements.{All-from_recursion}
 use Rattle.hash_lines.proofs.HexLemmas.{cases_Option}
 use Rattle.hash_lines.proofs.EscapeLemmas.{first_rest, first_same, nothing_first}
 use Rattle.hash_lines.proofs.LineLemmas.{first_one, front_digits, inner_is, last_is, same_begins, tagged_shown, untagged_shown}

@@ -1,9 +1,5 @@
 -- Lines that show a name, of some bytes or none. Those that tell a hash show one of some bytes.
-use Rattle.std.proofs.Common.{◌≡◌, ◌≢◌, ◌⊎◌, inl, inr, ℕ, Bool, true, false, List, [], ◌∷◌, length, Contains, refl, sym, subst, arith}
-use Rattle.hash_lines.specs.declared.line.LineKind.{LineKind}
-use Rattle.hash_lines.specs.Escape.{escape}
-use Rattle.hash_lines.specs.Line.{digits_of, name_shown, ShowsTagged, ShowsUntagged}
-use Rattle.hash_lines.specs.Told.{IsShown, Tells, TellsBody}
+use Rattle.hash_lines.proofs.Common.{◌≡◌, ◌≢◌, ◌⊎◌, inl, inr, ℕ, Bool, true, false, List, [], ◌∷◌, length, Contains, refl, sym, subst, arith, IsShown, Tells, TellsBody, digits_of, name_shown, ShowsTagged, ShowsUntagged, escape, LineKind}
 use Rattle.hash_lines.proofs.EscapeLemmas.{nothing_first}
 
 -- no name is shown in no bytes

@@ -1,12 +1,8 @@
 -- Kinds whose names are tags.
-use Rattle.std.proofs.Common.{◌≡◌, ◌⊎◌, inl, inr, ℕ, zero, suc, ◌||◌, not, Bool, true, false, List, [], ◌∷◌, refl, ap, sym, ◌∙◌, arith, Contains, map, subst, bytes_eq}
-use Rattle.std.specs.List.{list_any}
+use Rattle.hash_lines.proofs.Common.{◌≡◌, ◌⊎◌, inl, inr, ℕ, zero, suc, ◌||◌, not, Bool, true, false, List, [], ◌∷◌, refl, ap, sym, ◌∙◌, arith, Contains, map, subst, bytes_eq, AreTags, IsTag, are_tags, is_tag, LineKind, nat_tests, list_any}
 use Rattle.std.proofs.lemmas.Bool.{and_parts}
-use Rattle.std.proofs.lemmas.Bool.Decides.{nat_tests}
 use Rattle.std.proofs.lemmas.Slice.Eq.{bytes_eq-Decides}
 use Rattle.std.proofs.lemmas.List.Folds.{list_any_at}
-use Rattle.hash_lines.specs.declared.line.LineKind.{LineKind}
-use Rattle.hash_lines.specs.Told.{AreTags, IsTag, are_tags, is_tag}
 
 tag_seen : (name : List ℕ) → is_tag name ≡ true → IsTag name
 tag_seen [] seen = tt

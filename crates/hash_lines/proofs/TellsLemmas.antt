@@ -1,13 +1,7 @@
 -- What a line tells, or does not.
-use Rattle.std.proofs.Common.{◌≡◌, inl, inr, ℕ, ◌<◌, ◌^◌, ◌&&◌, ◌++◌, refl, Bool, true, false, List, Option, Some, None, subst}
-use Rattle.hash_lines.specs.declared.line.LineKind.{LineKind}
-use Rattle.hash_lines.specs.declared.parse.HashLine.{HashLine}
-use Rattle.hash_lines.specs.Escape.{needs_escape}
-use Rattle.hash_lines.specs.Hex.{hex}
+use Rattle.hash_lines.proofs.Common.{◌≡◌, inl, inr, ℕ, ◌<◌, ◌^◌, ◌&&◌, ◌++◌, refl, Bool, true, false, List, Option, Some, None, subst, Finds, FindsShown, IsShown, MayBeTold, body, digits_of, line_of, mark, name_shown, needs_escape, hex, LineKind, HashLine}
 use Rattle.hash_lines.specs.declared.line.Form.{Form}
 use Rattle.hash_lines.specs.declared.line.Form.TheVariants as form
-use Rattle.hash_lines.specs.Line.{body, digits_of, line_of, mark, name_shown}
-use Rattle.hash_lines.specs.Told.{Finds, FindsShown, IsShown, MayBeTold}
 use Rattle.hash_lines.proofs.HexLemmas.{hex_value-hex, length-hex}
 use Rattle.hash_lines.proofs.ShownLemmas.{ShowsBody, ShowsLine}
 

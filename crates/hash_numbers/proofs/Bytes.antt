@@ -1,7 +1,6 @@
 -- Up to sixteen bytes and the two words of the number that they are.
-use Rattle.hash_numbers.proofs.Common.{ℕ, suc, ◌≡◌, ◌+◌, ◌-◌, ◌*◌, ◌/◌, ◌%◌, ◌^◌, ◌<◌, ◌≤◌, List, [], ◌∷◌, ◌++◌, length, take, drop, slice_index, ◌∙◌, arith, ap, inl, inr, lit<, mod-lt, w64, sym, subst, add_comm, length-drop, pow_mono, drop-drop, length-take-le, take-append-drop, to_le_bytes, mul-le, pow_pos, shr_high, cases_lt, All-append, All-drop, All-take, IsText, IsByte, IsText-to_le_bytes, le-append, le-begins, le-few, le-power, moved_parts, held_bytes, pow-add}
+use Rattle.hash_numbers.proofs.Common.{ℕ, suc, ◌≡◌, ◌+◌, ◌-◌, ◌*◌, ◌/◌, ◌%◌, ◌^◌, ◌<◌, ◌≤◌, List, [], ◌∷◌, ◌++◌, length, take, drop, slice_index, ◌∙◌, arith, ap, inl, inr, lit<, mod-lt, w64, sym, subst, add_comm, length-drop, pow_mono, drop-drop, length-take-le, take-append-drop, to_le_bytes, mul-le, pow_pos, shr_high, cases_lt, All-append, All-drop, All-take, IsText, IsByte, IsText-to_le_bytes, le-append, le-begins, le-few, le-power, moved_parts, held_bytes, pow-add, le-to_le_bytes-64}
 use Rattle.hash_words.specs.Words.{le}
-use Rattle.hash_words.proofs.WordLemmas.{le-to_le_bytes-64}
 
 -- four to eight bytes by the first four and the last four
 pub by_fours : (t : List ℕ) → IsText t → 4 ≤ length t → length t ≤ 8

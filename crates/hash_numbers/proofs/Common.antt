@@ -29,3 +29,5 @@ pub use Rattle.std.proofs.lemmas.Map.Made.{IsDistinct-from_AllPairs}
 pub use Rattle.std.proofs.lemmas.List.Folds.{Any-from_list_any}
 pub use Rattle.std.proofs.Math.Seq.{take-append-add}
 pub use Rattle.std.proofs.lemmas.Grind.{common_steps}
+unfoldable pub use Rattle.hashers.specs.Words.{le}
+pub use Rattle.hash_words.proofs.WordLemmas.{le-to_le_bytes-64, le_by_places}

@@ -1,6 +1,5 @@
 -- The hash of a key in pieces is that of its bytes.
-use Rattle.hash_numbers.proofs.Common.{ℕ, ◌≡◌, ◌+◌, ◌*◌, ◌/◌, ◌%◌, ◌^◌, ◌<◌, ◌≤◌, nat_lt, nat_le, List, [], ◌∷◌, ◌++◌, length, fold, All, refl, sym, ap, ap₂, ◌∙◌, ◌⊎◌, inl, inr, arith, append_assoc, length-append, append-nil, concat, cases_lt, cond-true, cond-false, le-leb, lt-leb, lt-ltb, fold-append, All-append, All-cons, All-nil, All-head, All-tail, IsText, IsByte, prime61, after, byte_in, start_at, number_hash, pair_hash, after_write, answer_of, as_text, fresh_at, keyed_hash, NumberHasher, le-append, le-few, le-power}
-use Rattle.hashers.specs.Words.{le}
+use Rattle.hash_numbers.proofs.Common.{ℕ, ◌≡◌, ◌+◌, ◌*◌, ◌/◌, ◌%◌, ◌^◌, ◌<◌, ◌≤◌, nat_lt, nat_le, List, [], ◌∷◌, ◌++◌, length, fold, All, refl, sym, ap, ap₂, ◌∙◌, ◌⊎◌, inl, inr, arith, append_assoc, length-append, append-nil, concat, cases_lt, cond-true, cond-false, le-leb, lt-leb, lt-ltb, fold-append, All-append, All-cons, All-nil, All-head, All-tail, IsText, IsByte, prime61, after, byte_in, start_at, number_hash, pair_hash, after_write, answer_of, as_text, fresh_at, keyed_hash, NumberHasher, le-append, le-few, le-power, le}
 use Rattle.hash_keyed.specs.Poly61Laws.{poly61-is}
 use Rattle.hash_numbers.proofs.Bytes.{kept, words_behind}
 use Rattle.hash_numbers.proofs.States.{number_behind, one_word, text_behind}

@@ -1,6 +1,5 @@
 -- A hasher after a write.
-use Rattle.hash_numbers.proofs.Common.{ℕ, ◌≡◌, ◌+◌, ◌*◌, ◌/◌, ◌%◌, ◌^◌, ◌<◌, ◌≤◌, nat_le, List, [], ◌∷◌, length, take, w64, refl, sym, ap, ap₂, ◌∙◌, arith, to_le_bytes, take-append-le, fold-append, Position, after, byte_in, div-eq_of_lt, cond-true, cond-false, le-leb, lt-leb, number_hash, pair_hash, after_write, behind, held_bytes, with_text, NumberHasher, pow-add, take-append-add, mod-eq_of_lt}
-use Rattle.hashers.specs.Words.{le}
+use Rattle.hash_numbers.proofs.Common.{ℕ, ◌≡◌, ◌+◌, ◌*◌, ◌/◌, ◌%◌, ◌^◌, ◌<◌, ◌≤◌, nat_le, List, [], ◌∷◌, length, take, w64, refl, sym, ap, ap₂, ◌∙◌, arith, to_le_bytes, take-append-le, fold-append, Position, after, byte_in, div-eq_of_lt, cond-true, cond-false, le-leb, lt-leb, number_hash, pair_hash, after_write, behind, held_bytes, with_text, NumberHasher, pow-add, take-append-add, mod-eq_of_lt, le}
 
 pub number_behind : (h : NumberHasher) (bytes : List ℕ) (n k : ℕ) → le bytes ≡ n → length bytes ≡ k → h.held + k ≤ 16
     → behind h n k ≡ after_write h bytes

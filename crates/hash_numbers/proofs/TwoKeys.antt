@@ -1,6 +1,5 @@
 -- Two keys of a map, of any lengths, have one hash at few keys of the hash.
-use Rattle.hash_numbers.proofs.Common.{ℕ, ◌≡◌, ◌≢◌, ◌+◌, ◌%◌, ◌^◌, ◌<◌, ◌≤◌, max, nat_le, List, length, get_or, All, sym, ap, ◌∙◌, inl, inr, arith, cases_lt, cond-true, cond-false, le-leb, lt-leb, IsText, AreKeys, prime61, word_count, poly61, few_keys_meet, AreTriples, pair_hash, keyed_hash, NeitherBegins, le-begins, le-few, mod-eq_of_lt}
-use Rattle.hashers.specs.Words.{le}
+use Rattle.hash_numbers.proofs.Common.{ℕ, ◌≡◌, ◌≢◌, ◌+◌, ◌%◌, ◌^◌, ◌<◌, ◌≤◌, max, nat_le, List, length, get_or, All, sym, ap, ◌∙◌, inl, inr, arith, cases_lt, cond-true, cond-false, le-leb, lt-leb, IsText, AreKeys, prime61, word_count, poly61, few_keys_meet, AreTriples, pair_hash, keyed_hash, NeitherBegins, le-begins, le-few, mod-eq_of_lt, le}
 use Rattle.hash_numbers.proofs.Evenness.{few_triples_have}
 use Rattle.hash_numbers.proofs.KeyLaws.{few_triples}
 

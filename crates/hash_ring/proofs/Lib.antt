@@ -6,3 +6,4 @@ pub mod Edits
 pub mod Laws
 pub mod Shares
 pub mod Merge
+pub mod Lemmas

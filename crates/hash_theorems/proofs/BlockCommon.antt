@@ -21,15 +21,15 @@ pub use Rattle.hash_words.specs.Pieces.{le_words}
 unfoldable pub use Rattle.hash_words.specs.Pieces.{pieces}
 pub use Rattle.hash_words.specs.Undoes.{Undoes, UndoesWords, IsWord}
 pub use Rattle.hash_words.specs.Words.{le, rotl, add, sub}
-pub use Rattle.hash_blocks.specs.Xxh32.{q1, q2, q3, q4, q5, xxh32}
-unfoldable pub use Rattle.hash_blocks.specs.Xxh32.{converged, words_of}
+pub use Rattle.hash_blocks.specs.Xxh32.{q1, q2, q3, q4, q5, xxh32, product, fours_in}
+unfoldable pub use Rattle.hash_blocks.specs.Xxh32.{converged, words_of, round, start, after_block, four_in, byte_in, rest_in, last_mix}
 pub use Rattle.hash_blocks.specs.Xxh64.{p1, p2, p3, p4, p5, eights_in, xxh64}
 unfoldable pub use Rattle.hash_blocks.specs.Xxh64.{eight_in}
 pub use Rattle.hash_theorems.specs.BlockFacts.{BlockFacts, IsBlock, IsLeft}
 unfoldable pub use Rattle.hash_theorems.specs.BlockFacts.{blocks_before}
 pub use Rattle.hash_theorems.specs.Murmur3BackLaws.{murmur3_32_facts}
 pub use Rattle.hash_theorems.specs.Murmur3x128Laws.{murmur3_128_facts}
-pub use Rattle.hash_theorems.specs.Xxh32Back.{lane_back, turn_of, un_q1, un_q2, un_q3, un_q4}
-unfoldable pub use Rattle.hash_theorems.specs.Xxh32Back.{four_between, lane_for, unturned, word_between}
+pub use Rattle.hash_theorems.specs.Xxh32Back.{lane_back, turn_of, un_q1, un_q2, un_q3, un_q4, rest_out, begun}
+unfoldable pub use Rattle.hash_theorems.specs.Xxh32Back.{four_between, lane_for, unturned, word_between, four_out, byte_out, lane_out, last_unmix}
 pub use Rattle.hash_theorems.specs.Xxh64Back.{eight_between, eight_out, un_p1, un_p2, un_p3}
 unfoldable pub use Rattle.hash_theorems.specs.Xxh64Back.{unround, unspun}

@@ -1,9 +1,7 @@
 -- XXH32's steps undo, and are undone by, their way back.
-use Rattle.hash_theorems.proofs.BlockCommon.{◌≡◌, ℕ, zero, suc, ◌^◌, ◌<◌, ◌≤◌, List, slice_index, refl, arith, lit<, lit≤, mod_below, pow_pos, le, rotl, add, sub, UndoesWords, ◌▷◌, turned_round, folded, added, added_onto, rotated, multiplied, shifted, shifted_less, IsText, IsByte, blocks, blocks_seen, q1, q2, q3, q4, q5, tail, blocks_before, words_of, converged, un_q1, un_q2, un_q3, un_q4, unturned, lane_back, four_between, word_between, turn_of, lane_for}
+use Rattle.hash_theorems.proofs.BlockCommon.{◌≡◌, ℕ, zero, suc, ◌^◌, ◌<◌, ◌≤◌, List, slice_index, refl, arith, lit<, lit≤, mod_below, pow_pos, le, rotl, add, sub, UndoesWords, ◌▷◌, turned_round, folded, added, added_onto, rotated, multiplied, shifted, shifted_less, IsText, IsByte, blocks, blocks_seen, q1, q2, q3, q4, q5, tail, blocks_before, words_of, converged, un_q1, un_q2, un_q3, un_q4, unturned, lane_back, four_between, word_between, turn_of, lane_for, four_out, byte_out, lane_out, rest_out, last_unmix, product, round, start, after_block, four_in, byte_in, rest_in, last_mix}
 use Rattle.hash_words.proofs.WordLemmas.{rotl-lt}
 use Rattle.hash_theorems.proofs.BackLemmas.{taken_back, tail-left}
-use Rattle.hash_blocks.specs.Xxh32.{product, round, start, after_block, four_in, byte_in, rest_in, last_mix}
-use Rattle.hash_theorems.specs.Xxh32Back.{four_out, byte_out, lane_out, rest_out, last_unmix}
 
 product-lt : (x p : ℕ) → product x p < 2 ^ 32
 product-lt x p = mod_below _ (2 ^ 32) (pow_pos 32)

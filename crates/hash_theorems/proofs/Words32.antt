@@ -1,13 +1,11 @@
 -- XXH32 as a function of one word of four bytes.
-use Rattle.hash_theorems.proofs.BlockCommon.{◌≡◌, ◌≢◌, ℕ, ◌+◌, ◌-◌, ◌*◌, ◌/◌, ◌%◌, ◌^◌, ◌<◌, ◌≤◌, nat_lt, false, List, [], ◌∷◌, ◌++◌, length, slice_index, take, drop, fold, refl, sym, ap, ◌∙◌, arith, lit<, inl, inr, length-append, length-drop, drop_of_length-le, ap₂, take-add, cases_lt, All-drop, add-mod-mod, mod_below, pow_pos, first_chunks, le, rotl, add, sub, Undoes, IsWord, part-same, length-first_chunks, ◌▷◌, likewise, added, IsText, IsByte, IsFirstDifference, DifferInOneBlock, blocks, blocks_on, blocks_one, blocks_short, blocks-append, tail_on, tail_short, tail-append, xxh32, of_four_bytes, pieces, tail, words_of, converged, IsBlock, lane_back, four_between, word_between, lane_for, turn_of}
+use Rattle.hash_theorems.proofs.BlockCommon.{◌≡◌, ◌≢◌, ℕ, ◌+◌, ◌-◌, ◌*◌, ◌/◌, ◌%◌, ◌^◌, ◌<◌, ◌≤◌, nat_lt, false, List, [], ◌∷◌, ◌++◌, length, slice_index, take, drop, fold, refl, sym, ap, ◌∙◌, arith, lit<, inl, inr, length-append, length-drop, drop_of_length-le, ap₂, take-add, cases_lt, All-drop, add-mod-mod, mod_below, pow_pos, first_chunks, le, rotl, add, sub, Undoes, IsWord, part-same, length-first_chunks, ◌▷◌, likewise, added, IsText, IsByte, IsFirstDifference, DifferInOneBlock, blocks, blocks_on, blocks_one, blocks_short, blocks-append, tail_on, tail_short, tail-append, xxh32, of_four_bytes, pieces, tail, words_of, converged, IsBlock, lane_back, four_between, word_between, lane_for, turn_of, begun, rest_out, last_unmix, round, start, after_block, four_in, byte_in, fours_in, rest_in, last_mix}
 use Rattle.std.proofs.lemmas.Bool.Decides.{nat_tests}
 use Rattle.std.proofs.lemmas.List.{append_assoc, take-append-drop, take_at, drop_at, get_or-map, length-take-le, append-nil}
 use Rattle.std.specs.Int.{w32, to_le_bytes}
 use borrow.Rule.Slice.PartMut.{put_mid}
 use Rattle.hash_words.proofs.Chunks.{get_or-first_chunks}
 use Rattle.hash_laws.proofs.FrameLemmas.{same_outside}
-use Rattle.hash_blocks.specs.Xxh32.{round, start, after_block, four_in, byte_in, fours_in, rest_in, last_mix}
-use Rattle.hash_theorems.specs.Xxh32Back.{begun, rest_out, last_unmix}
 use Rattle.hash_theorems.specs.Xxh32Words.{DifferInOneWord}
 use Rattle.hash_theorems.proofs.BackLemmas.{framed-blocks, framed-tail, framed-length, tail-left, length-tail, ahead, behind, ahead-is, behind-is, shows, block_of_first}
 use Rattle.hash_theorems.proofs.Steps32.{of_fours, of_four_word, of_word, of_lane_blocks, of_sum, of_ended, round-lt, lane-block, lane-blocks, start-in, converged-lt, sum-by}

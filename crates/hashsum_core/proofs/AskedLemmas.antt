@@ -1,16 +1,9 @@
 -- The hash that a call asks for.
-use Rattle.hashsum_core.proofs.Common.{◌≡◌, inl, inr, ℕ, zero, suc, Bool, true, false, if◌then◌else◌, List, [], ◌∷◌, map, fold, codes, Option, Some, None, IsSome, Contains, refl, sym, ap, ◌∙◌, subst, arith, option_map, bytes_eq, to_ascii_lowercase, false≢true, or_left, or_right, bytes_decides, LineKind, Tells, Saying, given, value_after, value_of, Opens}
-use Rattle.std.proofs.Common.{find, ◌+◌}
-use Rattle.hashsum_core.specs.declared.sums.TheConstants.{UNKEYED}
+use Rattle.hashsum_core.proofs.Common.{◌≡◌, inl, inr, ℕ, zero, suc, Bool, true, false, if◌then◌else◌, List, [], ◌∷◌, map, fold, codes, Option, Some, None, IsSome, Contains, refl, sym, ap, ◌∙◌, subst, arith, option_map, bytes_eq, to_ascii_lowercase, false≢true, or_left, or_right, bytes_decides, LineKind, Tells, Saying, given, value_after, value_of, Opens, is_named, kind_of, kinds, poly61_at_both, siphash24_at, sum_at, sum_by, sum_of, told_at, told_of, Told, find, ◌+◌, TellsAny, asked, asks_for, asks_for_keyed, asks_for_poly61, asks_for_siphash24, is_by_name, key_file, key_rule, kinds_under, misuse_of, UNKEYED, GivesKeys, HasEndedWell, AreKeysFor, ArePoly61Keys, MayBeKeys}
 use Rattle.cli.specs.Call.Saying.{Gives, Operand, Errs}
-use Rattle.hashsum_core.specs.Checking.{TellsAny}
-use Rattle.hashsum_core.specs.Ended.{GivesKeys, HasEndedWell}
-use Rattle.hashsum_core.specs.Keys.{AreKeysFor, ArePoly61Keys, MayBeKeys}
 use Rattle.hashsum_core.specs.declared.keys.KeyRule.{KeyRule}
 use Rattle.hashsum_core.specs.declared.keys.KeyRule.TheVariants.{Any, Poly61}
 use Rattle.hashsum_core.proofs.NameLemmas.{found_as_told}
-use Rattle.hashsum_core.specs.Program.{asked, asks_for, asks_for_keyed, asks_for_poly61, asks_for_siphash24, is_by_name, key_file, key_rule, kinds_under, misuse_of}
-use Rattle.hashsum_core.specs.Sums.{is_named, kind_of, kinds, poly61_at_both, siphash24_at, sum_at, sum_by, sum_of, told_at, told_of, Told}
 
 -- one thing alone is there
 pub only_one : (kind other : LineKind) → Contains (kind ∷ []) other → other ≡ kind

@@ -1,5 +1,5 @@
--- What the proofs of this crate share of std and of the crates below, passed on from one place.
-pub use Rattle.std.proofs.Common.{◌≡◌, inl, inr, ℕ, zero, suc, Bool, true, false, if◌then◌else◌, List, [], ◌∷◌, map, fold, codes, Option, Some, None, IsSome, Contains, refl, sym, ap, ◌∙◌, subst, arith, option_map, bytes_eq, ◌*◌, ◌/◌, ◌%◌, ◌^◌, ◌<◌, nat_lt, length, slice_index, take, drop, All, lit<, ◌+◌, ◌++◌, Result, mod-lt, mod-eq_of_lt, ◌≢◌, ◌&&◌, nat_eq, Ok, Err, unwrap_or, ◌⊎◌, zero-lt-suc, Any, slice_index_or, get_or, take-append-drop, flat_map, rules, ◌≤◌, lit≤, ap₂, is_some, OnOk, OnErr, ◌-◌, length-drop, length-take-le, take-add, div-add-mod', Vec, slice_get}
+-- What the proofs of this crate share of std, of the crates below and of its own definitions, passed on from one place.
+pub use Rattle.std.proofs.Common.{◌≡◌, inl, inr, ℕ, zero, suc, Bool, true, false, if◌then◌else◌, List, [], ◌∷◌, map, fold, codes, Option, Some, None, IsSome, Contains, refl, sym, ap, ◌∙◌, subst, arith, option_map, bytes_eq, ◌*◌, ◌/◌, ◌%◌, ◌^◌, ◌<◌, nat_lt, length, slice_index, take, drop, All, lit<, ◌+◌, ◌++◌, Result, mod-lt, mod-eq_of_lt, ◌≢◌, ◌&&◌, nat_eq, Ok, Err, unwrap_or, ◌⊎◌, zero-lt-suc, Any, slice_index_or, get_or, take-append-drop, flat_map, rules, ◌≤◌, lit≤, ap₂, is_some, OnOk, OnErr, ◌-◌, length-drop, length-take-le, take-add, div-add-mod', Vec, slice_get, find, append-nil, append_assoc}
 pub use Rattle.std.proofs.KnownBytes.{Keeps-refl, Appends-kept, Appends-nil, Appends-trans}
 pub use Rattle.std.proofs.lemmas.Bool.{false≢true, or_left, or_right, and_parts, cases_lt}
 pub use Rattle.std.proofs.lemmas.Bool.Decides.{nat_tests}
@@ -35,3 +35,28 @@ pub use Rattle.streams.specs.declared.failure.Failure.TheVariants.{Unwritten, No
 pub use Rattle.streams.specs.declared.failure.Nothing.{Nothing}
 pub use Rattle.text_set.specs.Lines.{lines_by, ReadsNext}
 pub use lib.Pointwise.{bytes_decides}
+unfoldable pub use Rattle.hashsum_core.specs.Sums.{sum_at, number_named}
+pub use Rattle.hashsum_core.specs.Sums.{is_named, kind_of, kinds, poly61_at_both, siphash24_at, sum_by, sum_of, told_at, told_of, Told, width_in, name_in, takes_keys, wide_name, wide_of, width_of}
+pub use Rattle.hashsum_core.specs.Checking.{TellsAny, IsVerdict, is_not_found, counted, passes, is_itself, is_skipped, takes_sfv, verdict_on, IsLineCheck}
+pub use Rattle.hashsum_core.specs.Lists.{counts_of, said_of, uncounted, AreFirstLines, AreLines, EndsLine, EndsList, IsLineCheckOf, AreListed, EndsListOf, EndsLists, bare}
+pub use Rattle.hashsum_core.specs.Program.{asked, asks_for, asks_for_keyed, asks_for_poly61, asks_for_siphash24, is_by_name, key_file, key_rule, kinds_under, misuse_of, checking_of, summing_of, taken, work_by, work_of, EndsCall, EndsTask, EndsUnless}
+pub use Rattle.hashsum_core.specs.declared.check.Checking.{Checking}
+pub use Rattle.hashsum_core.specs.Passed.{fails, is_same, HasPassed, HasHash, LineTells, ListTells}
+pub use Rattle.hashsum_core.specs.declared.sums.TheConstants.{UNKEYED, SUMS}
+pub use Rattle.hash_laws.specs.Text.{IsText}
+pub use Rattle.hashsum_core.specs.Files.{ReadsFile, SumsFile}
+pub use Rattle.hashsum_core.specs.Laws.{HoldsOnly, NeverPasses, DifferAtOneWord}
+pub use Rattle.hashsum_core.specs.declared.check.LineCheck.{LineCheck}
+pub use Rattle.hashsum_core.specs.Told.{AreTold, AreTornOff}
+pub use Rattle.hashsum_core.specs.declared.sums.Sum.{Sum}
+pub use Rattle.hashsum_core.specs.Ended.{GivesKeys, HasEndedWell}
+pub use Rattle.hashsum_core.specs.Keys.{AreKeysFor, ArePoly61Keys, MayBeKeys}
+pub use Rattle.hashsum_core.specs.declared.check.Verdict.TheVariants.{Same, Different, Unread, Missing}
+pub use Rattle.hashsum_core.specs.declared.sum.Unsummed.TheVariants.{Unhashed, Unopened}
+unfoldable pub use Rattle.hash_kinds.specs.Named.{kind_named}
+pub use Rattle.hashsum_core.specs.declared.check.Counts.{Counts}
+pub use Rattle.hashsum_core.specs.Lists.AreListed.{next_list, no_list}
+pub use denote.Ref.{Bor}
+pub use Rattle.hashsum_core.specs.declared.sums.Wide.{Wide}
+pub use Rattle.hashsum_core.specs.Summing.{IsSummed, line_told}
+pub use Rattle.hashers.specs.Reading.{cut}

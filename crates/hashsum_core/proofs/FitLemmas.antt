@@ -1,10 +1,9 @@
 -- Each hash of the table is below 2 to the power of its bits.
-use Rattle.hashsum_core.proofs.Common.{ℕ, zero, suc, ◌*◌, ◌/◌, ◌%◌, ◌^◌, ◌<◌, List, [], ◌∷◌, length, slice_index, fold, map, take, drop, All, refl, arith, lit<, All-drop, All-head, All-tail, All-take, mod_below, pow_pos, xor_lt, AreTwoWords, lookup3_answer, lookup3_from, lookup3-AreTwoWords}
+use Rattle.hashsum_core.proofs.Common.{ℕ, zero, suc, ◌*◌, ◌/◌, ◌%◌, ◌^◌, ◌<◌, List, [], ◌∷◌, length, slice_index, fold, map, take, drop, All, refl, arith, lit<, All-drop, All-head, All-tail, All-take, mod_below, pow_pos, xor_lt, AreTwoWords, lookup3_answer, lookup3_from, lookup3-AreTwoWords, IsText}
 use Rattle.hash_words.specs.Words.{le}
 use Rattle.hash_words.specs.Pieces.{pieces}
 use Rattle.hash_words.proofs.ByteLemmas.{le-few}
 use Rattle.hash_words.proofs.XorshiftLemmas.{xorshift-lt}
-use Rattle.hash_laws.specs.Text.{IsText}
 use Rattle.hash_laws.specs.TextLaws.{IsByte}
 use Rattle.hash_blocks.specs.Blocks.{blocks, tail}
 use Rattle.hash_blocks.specs.BlocksLaws.{tail-lt}

@@ -1,13 +1,7 @@
 -- Checks by two keys.
-use Rattle.hashsum_core.proofs.Common.{◌≡◌, Bool, ℕ, ◌+◌, ◌*◌, ◌%◌, ◌^◌, ◌<◌, List, ◌++◌, Option, Some, None, Result, sym, ap, ◌∙◌, arith, lit<, mod-lt, subst, mod-eq_of_lt, Error, prime61, poly_hash}
-use Rattle.std.proofs.Common.{append-nil}
+use Rattle.hashsum_core.proofs.Common.{◌≡◌, Bool, ℕ, ◌+◌, ◌*◌, ◌%◌, ◌^◌, ◌<◌, List, ◌++◌, Option, Some, None, Result, sym, ap, ◌∙◌, arith, lit<, mod-lt, subst, mod-eq_of_lt, Error, prime61, poly_hash, poly61_at_both, append-nil, IsVerdict, ReadsFile, HoldsOnly, Same}
 use Rattle.hashers.specs.Text.{IsText}
 use Rattle.hash_keyed.specs.Poly61State.{poly61, MeetAtBoth}
-use Rattle.hashsum_core.specs.declared.check.Verdict.TheVariants.{Same}
-use Rattle.hashsum_core.specs.Checking.{IsVerdict}
-use Rattle.hashsum_core.specs.Files.{ReadsFile}
-use Rattle.hashsum_core.specs.Laws.{HoldsOnly}
-use Rattle.hashsum_core.specs.Sums.{poly61_at_both}
 use Rattle.hashsum_core.proofs.LawLemmas.{never_passes}
 
 -- a hash has 64 bits

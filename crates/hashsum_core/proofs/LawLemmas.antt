@@ -1,13 +1,6 @@
 -- What a check sees.
-use Rattle.hashsum_core.proofs.Common.{◌≡◌, ◌≢◌, arith, ℕ, Bool, ◌&&◌, nat_eq, List, Option, Some, Result, Ok, Err, if◌then◌else◌, refl, sym, ◌∙◌, nat_tests, error_kind, Error, Opens, Kind, Ported, Fnv1a32, name_of, read_of}
+use Rattle.hashsum_core.proofs.Common.{◌≡◌, ◌≢◌, arith, ℕ, Bool, ◌&&◌, nat_eq, List, Option, Some, Result, Ok, Err, if◌then◌else◌, refl, sym, ◌∙◌, nat_tests, error_kind, Error, Opens, Kind, Ported, Fnv1a32, name_of, read_of, number_named, is_not_found, IsVerdict, ReadsFile, NeverPasses, Same, Different, Unread, Missing, Unhashed, Unopened, kind_named}
 use Rattle.hashers.specs.Text.{IsText}
-use Rattle.hashsum_core.specs.declared.check.Verdict.TheVariants.{Same, Different, Unread, Missing}
-use Rattle.hashsum_core.specs.declared.sum.Unsummed.TheVariants.{Unhashed, Unopened}
-use Rattle.hashsum_core.specs.Checking.{is_not_found, IsVerdict}
-use Rattle.hashsum_core.specs.Files.{ReadsFile}
-use Rattle.hashsum_core.specs.Laws.{NeverPasses}
-use Rattle.hash_kinds.specs.Named.{kind_named}
-use Rattle.hashsum_core.specs.Sums.{number_named}
 
 -- a number that is said to be the same is the same
 same_number : (told number : ℕ) → (if nat_eq number told then Same else Different) ≡ Same → number ≡ told

@@ -1,13 +1,6 @@
 -- Lists whose lines are checked.
-use Rattle.hashsum_core.proofs.Common.{◌≡◌, inl, inr, ℕ, true, List, [], ◌∷◌, ◌++◌, length, Option, Some, None, Ok, Err, refl, ap, sym, ◌∙◌, subst, arith, Keeps-refl, nat_tests, fold-append, IsAtEnd, LineKind, Failure, Nothing, Opens, lines_by, ReadsNext}
-use Rattle.std.proofs.Common.{append_assoc, append-nil}
+use Rattle.hashsum_core.proofs.Common.{◌≡◌, inl, inr, ℕ, true, List, [], ◌∷◌, ◌++◌, length, Option, Some, None, Ok, Err, refl, ap, sym, ◌∙◌, subst, arith, Keeps-refl, nat_tests, fold-append, IsAtEnd, LineKind, Failure, Nothing, Opens, lines_by, ReadsNext, append_assoc, append-nil, counted, counts_of, said_of, uncounted, AreFirstLines, AreLines, EndsLine, EndsList, IsLineCheckOf, Checking, LineCheck, AreTold, Counts}
 use Rattle.std.specs.Io.BufRead.{drop_through, take_through}
-use Rattle.hashsum_core.specs.declared.check.LineCheck.{LineCheck}
-use Rattle.hashsum_core.specs.declared.check.Checking.{Checking}
-use Rattle.hashsum_core.specs.declared.check.Counts.{Counts}
-use Rattle.hashsum_core.specs.Checking.{counted}
-use Rattle.hashsum_core.specs.Lists.{counts_of, said_of, uncounted, AreFirstLines, AreLines, EndsLine, EndsList, IsLineCheckOf}
-use Rattle.hashsum_core.specs.Told.{AreTold}
 use Rattle.hashsum_core.proofs.ToldLemmas.{told_next, told_start, torn_kept, torn_within}
 
 -- the first line of a text, and the lines of the rest

@@ -1,7 +1,6 @@
 -- Each hash that a line can tell is found by its name, and has the width of its number.
-use Rattle.hashsum_core.proofs.Common.{ℕ, ◌≡◌, ◌<◌, true, List, [], ◌∷◌, length, map, Option, Some, None, Contains, refl, sym, ap, ◌∙◌, subst, arith, bytes_eq, option_map, unwrap_or, to_ascii_lowercase, AllByRecursion, bytes_decides, get_or-map, length-map, All-contains, All-from_recursion, LineKind}
+use Rattle.hashsum_core.proofs.Common.{ℕ, ◌≡◌, ◌<◌, true, List, [], ◌∷◌, length, map, Option, Some, None, Contains, refl, sym, ap, ◌∙◌, subst, arith, bytes_eq, option_map, unwrap_or, to_ascii_lowercase, AllByRecursion, bytes_decides, get_or-map, length-map, All-contains, All-from_recursion, LineKind, is_named, kind_of, kinds, sum_at, told_of, width_in, Told}
 use Rattle.std.specs.List.{find}
-use Rattle.hashsum_core.specs.Sums.{is_named, kind_of, kinds, sum_at, told_of, width_in, Told}
 
 -- the hash of that name, in letters of either case
 abbrev pub of_name : List ℕ → List Told → Option Told

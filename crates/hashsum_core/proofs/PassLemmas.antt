@@ -1,12 +1,5 @@
 -- Lists that pass.
-use Rattle.hashsum_core.proofs.Common.{◌≡◌, inl, inr, ◌⊎◌, ℕ, ◌<◌, suc, zero-lt-suc, arith, Bool, true, false, ◌&&◌, nat_lt, List, [], ◌∷◌, length, Option, Ok, All, refl, sym, ap, ◌∙◌, subst, fold, Any, nat_tests, and_parts, All-cons, All-nil, All-push, LineKind, Opens}
-use Rattle.hashsum_core.specs.declared.check.LineCheck.{LineCheck}
-use Rattle.hashsum_core.specs.declared.check.Checking.{Checking}
-use Rattle.hashsum_core.specs.declared.check.Counts.{Counts}
-use Rattle.hashsum_core.specs.Checking.{counted, passes}
-use Rattle.hashsum_core.specs.Lists.{counts_of, uncounted, AreLines, AreListed, EndsListOf}
-use Rattle.hashsum_core.specs.Lists.AreListed.{next_list, no_list}
-use Rattle.hashsum_core.specs.Passed.{fails, is_same, HasPassed}
+use Rattle.hashsum_core.proofs.Common.{◌≡◌, inl, inr, ◌⊎◌, ℕ, ◌<◌, suc, zero-lt-suc, arith, Bool, true, false, ◌&&◌, nat_lt, List, [], ◌∷◌, length, Option, Ok, All, refl, sym, ap, ◌∙◌, subst, fold, Any, nat_tests, and_parts, All-cons, All-nil, All-push, LineKind, Opens, counted, passes, counts_of, uncounted, AreLines, AreListed, EndsListOf, Checking, fails, is_same, HasPassed, LineCheck, Counts, next_list, no_list}
 
 -- the counts behind others
 abbrev after : Counts → List (List ℕ × LineCheck) → Counts

@@ -1,24 +1,17 @@
 -- Checks that end well.
-use Rattle.hashsum_core.proofs.Common.{◌≡◌, inl, inr, ℕ, arith, true, false, Bool, if◌then◌else◌, List, map, codes, Option, Some, None, Result, Ok, Err, All, refl, sym, ap, ◌∙◌, subst, error_kind, LineKind, Failure, Unwritten, Nothing, Opens, files_or, given, operands, Saying}
+use Rattle.hashsum_core.proofs.Common.{◌≡◌, inl, inr, ℕ, arith, true, false, Bool, if◌then◌else◌, List, map, codes, Option, Some, None, Result, Ok, Err, All, refl, sym, ap, ◌∙◌, subst, error_kind, LineKind, Failure, Unwritten, Nothing, Opens, files_or, given, operands, Saying, kind_of, told_of, EndsLists, asked, checking_of, key_file, key_rule, kinds_under, misuse_of, summing_of, taken, work_by, work_of, EndsCall, EndsTask, EndsUnless, Checking, HasPassed, HasEndedWell, AreKeysFor}
 use Rattle.std.specs.declared.io.ErrorKind.{ErrorKind}
 use Rattle.cli.specs.Outcome.{of_run, status_of, write_status}
 use Rattle.cli.specs.declared.outcome.Outcome.{Outcome}
-use Rattle.hashsum_core.specs.declared.check.Checking.{Checking}
-use Rattle.hashsum_core.specs.Lists.{EndsLists}
-use Rattle.hashsum_core.specs.Passed.{HasPassed}
 use Rattle.hashsum_core.proofs.PassLemmas.{lists_passed}
 use Rattle.hashsum_core.specs.declared.outcome.Misuse.{Misuse}
 use Rattle.hashsum_core.specs.declared.outcome.Task.TheVariants.{Check, Sum}
-use Rattle.hashsum_core.specs.Program.{asked, checking_of, key_file, key_rule, kinds_under, misuse_of, summing_of, taken, work_by, work_of, EndsCall, EndsTask, EndsUnless}
 use Rattle.cli.specs.Frame.{request_of, EndsRequest}
 use Rattle.cli.specs.declared.frame.Request.TheVariants.{Work}
 use Rattle.cli.specs.declared.frame.Text.{Text}
 use Rattle.cli.specs.declared.outcome.Outcome.TheVariants.{Usage}
 use Rattle.cli.specs.declared.outcome.Wrong.{Wrong}
 use Rattle.cli.specs.declared.outcome.Wrong.TheVariants.{Own, UnknownName}
-use Rattle.hashsum_core.specs.Ended.{HasEndedWell}
-use Rattle.hashsum_core.specs.Keys.{AreKeysFor}
-use Rattle.hashsum_core.specs.Sums.{kind_of, told_of}
 
 module _ (kinds : List LineKind) (checking : Checking) (opens : Opens) where
   -- a write that fails does not end well

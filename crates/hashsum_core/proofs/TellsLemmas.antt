@@ -1,22 +1,12 @@
 -- What a list that passed tells of a file is so.
-use Rattle.hashsum_core.proofs.Common.{◌≡◌, inl, inr, ℕ, suc, zero-lt-suc, ◌<◌, Bool, true, false, if◌then◌else◌, List, [], ◌∷◌, length, map, Option, Some, None, Result, Ok, Err, Contains, sym, ap, ◌∙◌, subst, arith, slice_index_or, error_kind, nat_tests, false≢true, get_or-map, length-map, LineKind, AreTags, IsTag, Tells, lines_by, Opens}
-use Rattle.std.proofs.Common.{find}
+use Rattle.hashsum_core.proofs.Common.{◌≡◌, inl, inr, ℕ, suc, zero-lt-suc, ◌<◌, Bool, true, false, if◌then◌else◌, List, [], ◌∷◌, length, map, Option, Some, None, Result, Ok, Err, Contains, sym, ap, ◌∙◌, subst, arith, slice_index_or, error_kind, nat_tests, false≢true, get_or-map, length-map, LineKind, AreTags, IsTag, Tells, lines_by, Opens, is_named, kind_of, sum_by, find, is_itself, is_not_found, is_skipped, takes_sfv, verdict_on, IsLineCheck, bare, AreLines, taken, Checking, fails, HasHash, HasPassed, LineTells, ListTells, SumsFile, LineCheck, Unhashed, Unopened}
 use Rattle.hash_lines.specs.declared.parse.HashLine.{HashLine}
 use Rattle.hash_lines.proofs.OneLemmas.{line_one}
-use Rattle.hashsum_core.specs.declared.check.LineCheck.{LineCheck}
 use Rattle.hashsum_core.specs.declared.check.LineCheck.TheVariants.{Skipped, Improper, Checked}
-use Rattle.hashsum_core.specs.declared.check.Checking.{Checking}
 use Rattle.hashsum_core.specs.declared.check.Verdict.{Verdict}
 use Rattle.hashsum_core.specs.declared.sum.Unsummed.{Unsummed}
-use Rattle.hashsum_core.specs.declared.sum.Unsummed.TheVariants.{Unhashed, Unopened}
-use Rattle.hashsum_core.specs.Checking.{is_itself, is_not_found, is_skipped, takes_sfv, verdict_on, IsLineCheck}
-use Rattle.hashsum_core.specs.Files.{SumsFile}
-use Rattle.hashsum_core.specs.Lists.{bare, AreLines}
-use Rattle.hashsum_core.specs.Passed.{fails, HasHash, HasPassed, LineTells, ListTells}
-use Rattle.hashsum_core.specs.Program.{taken}
 use Rattle.hashsum_core.proofs.AskedLemmas.{only_one}
 use Rattle.hashsum_core.proofs.NameLemmas.{some_same}
-use Rattle.hashsum_core.specs.Sums.{is_named, kind_of, sum_by}
 
 module _ (kinds : List LineKind) (checking : Checking) (opens : Opens) where
   -- a verdict that does not fail its list

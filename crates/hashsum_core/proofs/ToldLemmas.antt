@@ -1,9 +1,7 @@
 -- Things that are told one after the other.
-use Rattle.hashsum_core.proofs.Common.{◌≡◌, ℕ, ◌+◌, ◌<◌, length, take, drop, get_or, arith, take-append-drop, Bool, true, ◌&&◌, List, [], ◌∷◌, ◌++◌, Option, map, refl, ap, ◌∙◌, flat_map, Appends, Keeps, Appends-kept, Appends-nil, Appends-trans, get_or-map, length-map, map-append, take_more, All-nil, All-push, AppendsPart, part_behind, part_whole}
-use Rattle.std.proofs.Common.{append_assoc, append-nil}
+use Rattle.hashsum_core.proofs.Common.{◌≡◌, ℕ, ◌+◌, ◌<◌, length, take, drop, get_or, arith, take-append-drop, Bool, true, ◌&&◌, List, [], ◌∷◌, ◌++◌, Option, map, refl, ap, ◌∙◌, flat_map, Appends, Keeps, Appends-kept, Appends-nil, Appends-trans, get_or-map, length-map, map-append, take_more, All-nil, All-push, AppendsPart, part_behind, part_whole, append_assoc, append-nil, AreTold, AreTornOff}
 use Rattle.std.proofs.lemmas.Grind.{flat_map-append}
 use Rattle.std.proofs.lemmas.List.Folds.{list_all-append}
-use Rattle.hashsum_core.specs.Told.{AreTold, AreTornOff}
 
 -- one more of the names
 pub names_more : {Y : Type 0} (now : Y → List ℕ) (xs : List Y) (i : ℕ) (d : Y) → i < length xs

@@ -1,5 +1,4 @@
-use Rattle.hash_ring.proofs.Common.{◌<◌, ◌≤◌, ◌+◌, [], inl, inr, arith, sym, ap, ◌∙◌, subst, ⊎_elim, cases_lt, get_or-map, length-map, pair_of, pairs}
-use Rattle.hash_ring.proofs.PointLemmas.{AreThese, ArePoints-permutation, in_order, is_there, one_node_more}
+use Rattle.hash_ring.proofs.Lemmas.{◌<◌, ◌≤◌, ◌+◌, [], inl, inr, arith, sym, ap, ◌∙◌, subst, ⊎_elim, cases_lt, get_or-map, length-map, pair_of, pairs, AreThese, ArePoints-permutation, in_order, is_there, one_node_more}
 use Rattle.hash_ring.proofs.all_points.Goals as goal
 
 pub loop-index-preserved : goal.loop-index-preserved

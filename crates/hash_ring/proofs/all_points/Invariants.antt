@@ -1,5 +1,4 @@
-use Rattle.hash_ring.proofs.Common.{◌<◌, pairs}
-use Rattle.hash_ring.proofs.PointLemmas.{AreThese}
+use Rattle.hash_ring.proofs.Lemmas.{◌<◌, pairs, AreThese}
 use Rattle.hash_ring.proofs.all_points.Given as goal
 
 abbrev pub invariant-loop-index : goal.invariant-loop-index

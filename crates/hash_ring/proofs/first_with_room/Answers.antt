@@ -1,5 +1,4 @@
-use Rattle.hash_ring.proofs.Common.{refl, FnReturnsAt, pairs}
-use Rattle.hash_ring.proofs.Owners.{first_to_pass, name_read, refused_all, refused_more, refused_start, round_of}
+use Rattle.hash_ring.proofs.Lemmas.{refl, FnReturnsAt, pairs, first_to_pass, name_read, refused_all, refused_more, refused_start, round_of}
 use Rattle.hash_ring.proofs.first_with_room.Goals as goal
 
 pub loop-steps-init : goal.loop-steps-init

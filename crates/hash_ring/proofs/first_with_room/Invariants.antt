@@ -1,5 +1,4 @@
-use Rattle.hash_ring.proofs.Common.{false, FnReturnsAt, pairs, ring_of}
-use Rattle.hash_ring.proofs.Owners.{AreRefusedRound, spot}
+use Rattle.hash_ring.proofs.Lemmas.{false, FnReturnsAt, pairs, ring_of, AreRefusedRound, spot}
 use Rattle.hash_ring.proofs.first_with_room.Given as goal
 
 abbrev pub invariant-loop-steps : goal.invariant-loop-steps

@@ -1,5 +1,4 @@
-use Rattle.hash_ring.proofs.Common.{◌≡◌, ◌∙◌, ◌++◌, List, ap, sym, subst, length, map, take, take_at, IsPermutation-append_right, IsPermutation-trans, Point, opened_up, pair_of, points_of, IsPermutation}
-use Rattle.hash_ring.proofs.Edits.{over}
+use Rattle.hash_ring.proofs.Lemmas.{◌≡◌, ◌∙◌, ◌++◌, List, ap, sym, subst, length, map, take, take_at, IsPermutation-append_right, IsPermutation-trans, Point, opened_up, pair_of, points_of, IsPermutation, over}
 use Rattle.hash_ring.proofs.merge_points.Goals as goal
 
 pub returns-clause-merged : goal.returns-clause-merged

@@ -1,5 +1,4 @@
-use Rattle.hash_ring.proofs.Common.{ℕ, ◌≡◌, ◌∙◌, ◌++◌, ◌∷◌, [], List, get_or, take, sym, ap, Bor, map-append, take_more, texts, names_at, node_at, pairs}
-use Rattle.hash_ring.proofs.Names.{read}
+use Rattle.hash_ring.proofs.Lemmas.{ℕ, ◌≡◌, ◌∙◌, ◌++◌, ◌∷◌, [], List, get_or, take, sym, ap, Bor, map-append, take_more, texts, names_at, node_at, pairs, read}
 use Rattle.hash_ring.proofs.names_of.Goals as goal
 
 pub loop-at-preserved : goal.loop-at-preserved

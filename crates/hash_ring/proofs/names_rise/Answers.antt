@@ -1,5 +1,4 @@
-use Rattle.hash_ring.proofs.Common.{◌≡◌, rules, always_returns_same, Node, is_lt}
-use Rattle.hash_ring.proofs.Names.{by_bytes, rise_exactly}
+use Rattle.hash_ring.proofs.Lemmas.{◌≡◌, rules, always_returns_same, Node, is_lt, by_bytes, rise_exactly}
 use Rattle.hash_ring.proofs.names_rise.Goals as goal
 
 pub returns : goal.returns

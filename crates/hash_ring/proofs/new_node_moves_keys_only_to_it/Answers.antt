@@ -1,4 +1,4 @@
-use Rattle.hash_ring.proofs.Laws.{moves_to}
+use Rattle.hash_ring.proofs.Lemmas.{moves_to}
 use Rattle.hash_ring.proofs.new_node_moves_keys_only_to_it.Goals as goal
 
 pub returns : goal.returns

@@ -1,4 +1,4 @@
-use Rattle.hash_ring.proofs.Owners.{no_owner}
+use Rattle.hash_ring.proofs.Lemmas.{no_owner}
 use Rattle.hash_ring.proofs.no_owner_without_nodes.Goals as goal
 
 pub returns : goal.returns

@@ -1,4 +1,4 @@
-use Rattle.hash_ring.proofs.Owners.{one_owner}
+use Rattle.hash_ring.proofs.Lemmas.{one_owner}
 use Rattle.hash_ring.proofs.one_owner_alone.Goals as goal
 
 pub returns : goal.returns

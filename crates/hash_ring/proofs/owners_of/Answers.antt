@@ -1,5 +1,4 @@
-use Rattle.hash_ring.proofs.Common.{ℕ, ◌≡◌, ◌<◌, ◌≤◌, ◌∙◌, length, take, ap, sym, subst, arith, min, AreOwners, names_at, nodes_of, All, length-take-le}
-use Rattle.hash_ring.proofs.Edits.{over}
+use Rattle.hash_ring.proofs.Lemmas.{ℕ, ◌≡◌, ◌<◌, ◌≤◌, ◌∙◌, length, take, ap, sym, subst, arith, min, AreOwners, names_at, nodes_of, All, length-take-le, over}
 use Rattle.hash_ring.proofs.owners_of.Goals as goal
 use Rattle.hash_ring.proofs.owners_of.Goals.{After-truncate}
 

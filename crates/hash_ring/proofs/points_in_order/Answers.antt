@@ -1,4 +1,4 @@
-use Rattle.hash_ring.proofs.PointLemmas.{in_order}
+use Rattle.hash_ring.proofs.Lemmas.{in_order}
 use Rattle.hash_ring.proofs.points_in_order.Goals as goal
 
 pub returns-clause-ordered : goal.returns-clause-ordered

@@ -1,6 +1,5 @@
-use Rattle.hash_ring.proofs.Common.{◌≡◌, ◌++◌, take, length, ap, ◌∙◌, point, take-append_seam}
+use Rattle.hash_ring.proofs.Lemmas.{◌≡◌, ◌++◌, take, length, ap, ◌∙◌, point, take-append_seam, one_more}
 use Rattle.std.specs.Hash.{le_bytes}
-use Rattle.hash_ring.proofs.PointLemmas.{one_more}
 use Rattle.hash_ring.proofs.push_points.Goals as goal
 
 pub loop-number-preserved : goal.loop-number-preserved

@@ -1,5 +1,4 @@
-use Rattle.hash_ring.proofs.Laws.{moves_from}
-use Rattle.hash_ring.proofs.Owners.{not_gone, stays}
+use Rattle.hash_ring.proofs.Lemmas.{moves_from, not_gone, stays}
 use Rattle.hash_ring.proofs.removal_moves_only_its_keys.Goals as goal
 
 pub returns : goal.returns

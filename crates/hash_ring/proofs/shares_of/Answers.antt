@@ -1,6 +1,4 @@
-use Rattle.hash_ring.proofs.Common.{◌+◌, ap, sym, refl, arith, length-map, common_steps, pair_of, pairs}
-use Rattle.hash_ring.proofs.Owners.{none}
-use Rattle.hash_ring.proofs.Shares.{none_yet, first_read, last_places, next_point}
+use Rattle.hash_ring.proofs.Lemmas.{◌+◌, ap, sym, refl, arith, length-map, common_steps, pair_of, pairs, none, none_yet, first_read, last_places, next_point}
 use Rattle.hash_ring.proofs.shares_of.Goals as goal
 
 pub loop-point-init : goal.loop-point-init

@@ -1,5 +1,4 @@
-use Rattle.hash_ring.proofs.Common.{◌≤◌, ◌^◌, pairs}
-use Rattle.hash_ring.proofs.Shares.{AreSharesUpto}
+use Rattle.hash_ring.proofs.Lemmas.{◌≤◌, ◌^◌, pairs, AreSharesUpto}
 use Rattle.hash_ring.proofs.shares_of.Given as goal
 
 abbrev pub invariant-loop-point : goal.invariant-loop-point

@@ -1,5 +1,4 @@
-use Rattle.std.proofs.Common.{◌≡◌, drop, find}
-use Rattle.cli.specs.Call.{choices, has_letter}
+use Rattle.cli.proofs.Common.{◌≡◌, drop, find, choices, has_letter}
 use Rattle.cli.proofs.call.by_letter.Given as goal
 
 -- it is for the options that are left to have the letter

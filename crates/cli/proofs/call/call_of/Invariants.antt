@@ -1,5 +1,4 @@
-use Rattle.std.proofs.Common.{◌≡◌, ◌++◌, drop, option_map}
-use Rattle.cli.specs.Call.{call_of, choices, said_by, sayings, texts, wants_of}
+use Rattle.cli.proofs.Common.{◌≡◌, ◌++◌, drop, option_map, call_of, choices, said_by, sayings, texts, wants_of}
 use Rattle.cli.proofs.call.call_of.Given as goal
 
 -- what was said, and what the words that are left say

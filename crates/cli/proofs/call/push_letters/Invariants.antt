@@ -1,5 +1,4 @@
-use Rattle.std.proofs.Common.{◌≡◌, ◌++◌, drop}
-use Rattle.cli.specs.Call.{by_letters, choices, sayings}
+use Rattle.cli.proofs.Common.{◌≡◌, ◌++◌, drop, by_letters, choices, sayings}
 use Rattle.cli.proofs.call.push_letters.Given as goal
 
 -- the letters that are left say what is still to be said, and what they want is wanted

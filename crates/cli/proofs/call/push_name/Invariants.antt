@@ -1,5 +1,4 @@
-use Rattle.std.proofs.Common.{◌≡◌, drop}
-use Rattle.cli.specs.Call.{by_name, choices}
+use Rattle.cli.proofs.Common.{◌≡◌, drop, by_name, choices}
 use Rattle.cli.proofs.call.push_name.Given as goal
 
 -- it is for the options that are left to have the name

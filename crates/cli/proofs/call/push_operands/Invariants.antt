@@ -1,5 +1,4 @@
-use Rattle.std.proofs.Common.{◌≡◌, ◌++◌, map, take}
-use Rattle.cli.specs.Call.{Operand, sayings, texts}
+use Rattle.cli.proofs.Common.{◌≡◌, ◌++◌, map, take, Operand, sayings, texts}
 use Rattle.cli.proofs.call.push_operands.Given as goal
 
 abbrev pub invariant-loop-word : goal.invariant-loop-word

@@ -1,5 +1,4 @@
-use Rattle.std.proofs.Common.{◌≡◌, ◌+◌, drop, fold, length, max}
-use Rattle.cli.specs.Help.{column, label}
+use Rattle.cli.proofs.Common.{◌≡◌, ◌+◌, drop, fold, length, max, column, label}
 use Rattle.cli.proofs.help.column.Given as goal
 
 -- the options that are left make the column what all make it

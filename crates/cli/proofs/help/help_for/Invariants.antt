@@ -1,5 +1,4 @@
-use Rattle.std.proofs.Common.{◌≡◌, ◌++◌, drop, string_bytes, flat_map}
-use Rattle.cli.specs.Help.{shown}
+use Rattle.cli.proofs.Common.{◌≡◌, ◌++◌, drop, string_bytes, flat_map, shown}
 use Rattle.cli.proofs.help.help_for.Given as goal
 
 -- with the options that are left all are shown

@@ -1,10 +1,8 @@
-use Rattle.std.proofs.Common.{◌==◌, ◌++◌, ◌∙◌, length, string_bytes, arith, sym, ap}
-use Rattle.std.specs.List.{slice_split}
+use Rattle.cli.proofs.Common.{◌==◌, ◌++◌, ◌∙◌, length, string_bytes, arith, sym, ap, in_column, slice_split}
 use Rattle.std.proofs.lemmas.Grind.{common_steps}
 use Rattle.std.proofs.lemmas.Iterator.Consumers.{YieldsList-turn, YieldsList-end}
 use Rattle.std.proofs.lemmas.Iterator.Splits.{YieldsList-from_str_split}
 use Rattle.std.proofs.lemmas.List.{append-nil, at_drop_more, drop_all, length_push}
-use Rattle.cli.specs.Help.{in_column}
 use Rattle.cli.proofs.help.push_option.Goals as goal
 
 pub loop-line-preserved : goal.loop-line-preserved

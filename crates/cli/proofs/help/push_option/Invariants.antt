@@ -1,6 +1,4 @@
-use Rattle.std.proofs.Common.{◌≡◌, ◌++◌, ◌==◌, drop, length, string_bytes}
-use Rattle.std.specs.List.{slice_split}
-use Rattle.cli.specs.Help.{in_column, shown}
+use Rattle.cli.proofs.Common.{◌≡◌, ◌++◌, ◌==◌, drop, length, string_bytes, in_column, shown, slice_split}
 use Rattle.cli.proofs.help.push_option.Given as goal
 
 -- with the lines that are left the text is whole

@@ -1,4 +1,4 @@
-use Rattle.std.proofs.Common.{◌≡◌, ◌++◌, replicate, string_bytes}
+use Rattle.cli.proofs.Common.{◌≡◌, ◌++◌, replicate, string_bytes}
 use Rattle.cli.proofs.help.push_spaces.Given as goal
 
 -- as many spaces stand behind the text as turns have been made

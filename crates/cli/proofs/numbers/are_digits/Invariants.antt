@@ -1,5 +1,4 @@
-use Rattle.std.proofs.Common.{◌≡◌, drop}
-use Rattle.std.specs.Str.{all_ascii_digits}
+use Rattle.cli.proofs.Common.{◌≡◌, drop, all_ascii_digits}
 use Rattle.cli.proofs.numbers.are_digits.Given as goal
 
 -- the digits are left

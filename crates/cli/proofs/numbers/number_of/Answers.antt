@@ -1,7 +1,4 @@
-use Rattle.std.proofs.Common.{◌≡◌, List, ℕ, None, Err, true, ap, subst, sym, ◌∙◌}
-use Rattle.std.proofs.lemmas.Str.Parse.{parse_digits}
-use Rattle.std.specs.Str.{all_ascii_digits}
-use Rattle.cli.specs.Numbers.{number_of}
+use Rattle.cli.proofs.Common.{◌≡◌, List, ℕ, None, Err, true, ap, subst, sym, ◌∙◌, all_ascii_digits, parse_digits, number_of}
 use Rattle.cli.proofs.NumberLemmas.{digits_are_text, no_number, own}
 use Rattle.cli.proofs.numbers.number_of.Goals as goal
 

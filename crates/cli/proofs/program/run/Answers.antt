@@ -1,4 +1,4 @@
-use Rattle.std.proofs.Common.{[], sym, subst}
+use Rattle.cli.proofs.Common.{[], sym, subst}
 use Rattle.cli.specs.Program.{IsStatus}
 use Rattle.cli.proofs.program.run.Goals as goal
 

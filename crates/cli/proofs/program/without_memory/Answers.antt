@@ -1,4 +1,4 @@
-use Rattle.std.proofs.Common.{inr, refl}
+use Rattle.cli.proofs.Common.{inr, refl}
 use Rattle.streams.specs.declared.failure.Failure.TheVariants.{NoMemory}
 use Rattle.cli.specs.declared.outcome.Outcome.TheVariants.{Failed}
 use Rattle.cli.proofs.program.without_memory.Goals as goal

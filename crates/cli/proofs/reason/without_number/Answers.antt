@@ -1,4 +1,4 @@
-use Rattle.std.proofs.Common.{◌∙◌, ap, sym, subst, refl, ◌<◌, ◌++◌, [], drop, take-append-drop, arith, append-nil}
+use Rattle.cli.proofs.Common.{◌∙◌, ap, sym, subst, refl, ◌<◌, ◌++◌, [], drop, take-append-drop, arith, append-nil}
 use Rattle.cli.proofs.reason.without_number.Goals as goal
 
 pub returns-in-Some : goal.returns-in-Some

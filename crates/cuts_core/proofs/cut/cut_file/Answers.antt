@@ -1,4 +1,4 @@
-use Rattle.std.proofs.Common.{false}
+use Rattle.cuts_core.proofs.Common.{false}
 use Rattle.std.proofs.lemmas.Bool.{false≢true}
 use Rattle.cuts_core.proofs.CutLemmas.{ends-early, ends-refused, ends-taken}
 use Rattle.cuts_core.proofs.cut.cut_file.Goals as goal

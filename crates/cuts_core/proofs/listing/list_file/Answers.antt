@@ -1,6 +1,4 @@
-use Rattle.std.proofs.Common.{◌≡◌, [], refl}
-use Rattle.std.specs.Io.Buffered.{writer_buffer, writer_contents}
-use Rattle.cuts_core.specs.Listing.{ListsChunks}
+use Rattle.cuts_core.proofs.Common.{◌≡◌, [], refl, ListsChunks, writer_buffer, writer_contents}
 use Rattle.cuts_core.proofs.CutLemmas.{after_all, after_any}
 use Rattle.cuts_core.proofs.ListingLemmas.{ends_lines, listed_none}
 use Rattle.cuts_core.proofs.listing.list_file.Goals as goal

@@ -1,11 +1,4 @@
-use Rattle.std.proofs.Common.{◌+◌, ◌∷◌, ◌++◌, [], ℕ, List, Err, Ok, map, take, drop, get_or, ap, refl, subst, sym, ◌∙◌}
-use denote.Ref.{Bor}
-use Rattle.std.specs.Io.Buffered.{writer_contents}
-use Rattle.cuts_core.specs.Cut.{Cut, IsFileCut, is_whole, name_of}
-use Rattle.cuts_core.specs.Listing.{EndsLines, lines_of}
-use Rattle.hash_lines.specs.declared.line.LineKind.{LineKind}
-use Rattle.hashsum_core.specs.Told.{AreTold}
-use Rattle.hashsum_core.proofs.ToldLemmas.{names_more, names_rest, told_next}
+use Rattle.cuts_core.proofs.Common.{◌+◌, ◌∷◌, ◌++◌, [], ℕ, List, Err, Ok, map, take, drop, get_or, ap, refl, subst, sym, ◌∙◌, Cut, IsFileCut, is_whole, name_of, EndsLines, lines_of, LineKind, writer_contents, Bor, AreTold, names_more, names_rest, told_next}
 use Rattle.cuts_core.proofs.listing.list_files.Goals as goal
 
 abbrev nothing : Bor (List ℕ)

@@ -1,8 +1,4 @@
-use Rattle.std.proofs.Common.{◌≡◌, List, [], take, map}
-use Rattle.std.specs.Io.Buffered.{writer_buffer, writer_contents}
-use Rattle.cuts_core.specs.Cut.{Cut, IsFileCut, is_whole, name_of}
-use Rattle.cuts_core.specs.Listing.{lines_of}
-use Rattle.hashsum_core.specs.Told.{AreTold}
+use Rattle.cuts_core.proofs.Common.{◌≡◌, List, [], take, map, Cut, IsFileCut, is_whole, name_of, lines_of, writer_buffer, writer_contents, AreTold}
 use Rattle.cuts_core.proofs.listing.list_files.Given as goal
 
 -- the lines of the files so far are written, and not held back

@@ -1,4 +1,4 @@
-use Rattle.std.proofs.Common.{rules, ◌∙◌, sym, inl}
+use Rattle.cuts_core.proofs.Common.{rules, ◌∙◌, sym, inl}
 use Rattle.cuts_core.proofs.outcome.outcome_of.Goals as goal
 
 pub returns-in-Ok-clause-ended : goal.returns-in-Ok-clause-ended

@@ -1,4 +1,4 @@
-use Rattle.std.proofs.Common.{◌≡◌, ◌++◌, take, drop}
+use Rattle.cuts_core.proofs.Common.{◌≡◌, ◌++◌, take, drop}
 use Rattle.cuts_core.specs.Sizes.{behind, leading}
 use Rattle.cuts_core.proofs.sizes.split_digits.Given as goal
 

@@ -1,4 +1,4 @@
-use Rattle.cuts_core.specs.Counted.{CountsChunks}
+use Rattle.cuts_core.proofs.Common.{CountsChunks}
 use Rattle.cuts_core.proofs.CutLemmas.{after_any}
 use Rattle.cuts_core.proofs.TallyLemmas.{counted_file, counts_none}
 use Rattle.cuts_core.proofs.tally.count_file.Goals as goal

@@ -1,12 +1,5 @@
-use Rattle.std.proofs.Common.{◌∷◌, ◌++◌, [], ℕ, List, map, take, get_or, subst, sym, ◌∙◌}
-use denote.Ref.{Bor}
-use Rattle.cuts_core.specs.Counted.{CountsMore, IsCounted}
-use Rattle.cuts_core.specs.Cut.{Cut}
-use Rattle.cuts_core.specs.Tally.{all_given}
+use Rattle.cuts_core.proofs.Common.{◌∷◌, ◌++◌, [], ℕ, List, map, take, get_or, subst, sym, ◌∙◌, Cut, CountsMore, IsCounted, LineKind, sum_by, all_given, Bor, names_more}
 use Rattle.cuts_core.proofs.TallyLemmas.{cut_more, given_more}
-use Rattle.hash_lines.specs.declared.line.LineKind.{LineKind}
-use Rattle.hashsum_core.specs.Sums.{sum_by}
-use Rattle.hashsum_core.proofs.ToldLemmas.{names_more}
 use Rattle.cuts_core.proofs.tally.count_files.Goals as goal
 
 pub loop-name-preserved : goal.loop-name-preserved

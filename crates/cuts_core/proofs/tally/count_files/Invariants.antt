@@ -1,8 +1,4 @@
-use Rattle.std.proofs.Common.{◌≡◌, List, take, map}
-use Rattle.cuts_core.specs.Counted.{IsCounted}
-use Rattle.cuts_core.specs.Cut.{Cut}
-use Rattle.cuts_core.specs.Tally.{AreCut, all_given}
-use Rattle.hashsum_core.specs.Sums.{sum_by}
+use Rattle.cuts_core.proofs.Common.{◌≡◌, List, take, map, Cut, IsCounted, sum_by, AreCut, all_given}
 use Rattle.cuts_core.proofs.tally.count_files.Given as goal
 
 -- the chunks of the files so far are counted

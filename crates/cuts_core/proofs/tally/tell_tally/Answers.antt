@@ -1,11 +1,5 @@
-use Rattle.std.proofs.Common.{inr, subst, ◌∙◌}
-use Rattle.std.specs.Io.Buffered.{writer_contents}
-use Rattle.streams.specs.Streams.{AppendsPart}
-use Rattle.cuts_core.specs.Counted.{IsCounted}
-use Rattle.cuts_core.specs.Tally.{all_given}
+use Rattle.cuts_core.proofs.Common.{inr, subst, ◌∙◌, IsCounted, LineKind, sum_by, writer_contents, all_given, AppendsPart}
 use Rattle.cuts_core.proofs.TallyLemmas.{lines_counted}
-use Rattle.hash_lines.specs.declared.line.LineKind.{LineKind}
-use Rattle.hashsum_core.specs.Sums.{sum_by}
 use Rattle.cuts_core.proofs.tally.tell_tally.Goals as goal
 
 pub returns-in-Ok-clause-told : goal.returns-in-Ok-clause-told

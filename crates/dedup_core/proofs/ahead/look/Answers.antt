@@ -1,6 +1,4 @@
-use Rattle.dedup_core.proofs.Common.{◌≡◌, take, ap, length, sym, subst, ◌∙◌, arith, take_more_set}
-use Rattle.dedup_core.specs.Between.{AreNext}
-use Rattle.dedup_core.proofs.AheadLemmas.{behind, behind_more, behind_within, found_more}
+use Rattle.dedup_core.proofs.Lemmas.{◌≡◌, take, ap, length, sym, subst, ◌∙◌, arith, take_more_set, AreNext, behind, behind_more, behind_within, found_more}
 use Rattle.dedup_core.proofs.ahead.look.Goals as goal
 
 pub loop-i-preserved : goal.loop-i-preserved

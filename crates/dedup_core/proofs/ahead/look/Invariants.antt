@@ -1,6 +1,4 @@
-use Rattle.dedup_core.proofs.Common.{◌≡◌, take}
-use Rattle.dedup_core.specs.Between.{AreNext}
-use Rattle.dedup_core.proofs.AheadLemmas.{behind}
+use Rattle.dedup_core.proofs.Lemmas.{◌≡◌, take, AreNext, behind}
 use Rattle.dedup_core.proofs.ahead.look.Given as goal
 
 -- what is left comes behind the lines that are found

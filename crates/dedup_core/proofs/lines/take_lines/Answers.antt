@@ -1,5 +1,4 @@
-use Rattle.dedup_core.proofs.Common.{ℕ, List, [], ◌∷◌, ◌++◌, arith, rules, common_steps, first_strip, on_err}
-use Rattle.dedup_core.proofs.RunLemmas.{leads_both, leads_nowhere, splits_both, splits_line, splits_nowhere, stands_on}
+use Rattle.dedup_core.proofs.Lemmas.{ℕ, List, [], ◌∷◌, ◌++◌, arith, rules, common_steps, first_strip, on_err, leads_both, leads_nowhere, splits_both, splits_line, splits_nowhere, stands_on}
 use Rattle.dedup_core.proofs.lines.take_lines.Goals as goal
 
 pub loop-found-init : goal.loop-found-init

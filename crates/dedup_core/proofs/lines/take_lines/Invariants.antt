@@ -1,6 +1,4 @@
-use Rattle.dedup_core.proofs.Common.{ℕ, List, ◌≡◌, ◌≤◌, ◌-◌, drop, length}
-use Rattle.dedup_core.specs.Between.{AreNext, Splits}
-use Rattle.dedup_core.specs.Taking.{At, Leads}
+use Rattle.dedup_core.proofs.Common.{ℕ, List, ◌≡◌, ◌≤◌, ◌-◌, drop, length, AreNext, Splits, At, Leads}
 use Rattle.dedup_core.proofs.lines.take_lines.Given as goal
 
 -- what is left of the bytes, behind the lines that were taken

@@ -1,8 +1,5 @@
 use Rattle.std.proofs.KnownBytes.{Consumes-nil}
-use Rattle.dedup_core.specs.Between.{Splits}
-use Rattle.dedup_core.proofs.Common.{[], subst, sym, Keeps-refl, IsBare, on_err}
-use Rattle.dedup_core.proofs.RunLemmas.{bare_nothing, bare_rest, begins_all, breaks_before, breaks_behind, breaks_within, leads_both, leads_kept, leads_nowhere, reads_on, reads_to_end, reads_to_fault, splits_nowhere, stands_on, takes_on}
-use Rattle.dedup_core.proofs.UnreadLemmas.{bare_both}
+use Rattle.dedup_core.proofs.Lemmas.{[], subst, sym, Keeps-refl, IsBare, on_err, Splits, bare_nothing, bare_rest, begins_all, breaks_before, breaks_behind, breaks_within, leads_both, leads_kept, leads_nowhere, reads_on, reads_to_end, reads_to_fault, splits_nowhere, stands_on, takes_on, bare_both}
 use Rattle.dedup_core.proofs.run.take_input.Goals as goal
 
 pub reads-init : goal.reads-init

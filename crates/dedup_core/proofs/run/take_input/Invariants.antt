@@ -1,6 +1,4 @@
-use Rattle.dedup_core.proofs.Common.{ℕ, List, ◌≡◌, [], writer_buffer, writer_contents, IsBare}
-use Rattle.dedup_core.specs.Taking.{At, Leads}
-use Rattle.dedup_core.proofs.RunLemmas.{Reads}
+use Rattle.dedup_core.proofs.Lemmas.{ℕ, List, ◌≡◌, [], writer_buffer, writer_contents, IsBare, At, Leads, Reads}
 use Rattle.dedup_core.proofs.run.take_input.Given as goal
 
 -- lines were taken, and nothing is held back

@@ -1,6 +1,5 @@
-use Rattle.dedup_core.proofs.Common.{◌<◌, true, false, map, length, sym, ◌∙◌, arith, rules}
+use Rattle.dedup_core.proofs.Lemmas.{◌<◌, true, false, map, length, sym, ◌∙◌, arith, rules, part_at_start, part_within, so_far_more, so_far_start}
 use Rattle.std.proofs.Math.Bool.{and-false, and-true}
-use Rattle.dedup_core.proofs.InputLemmas.{part_at_start, part_within, so_far_more, so_far_start}
 use Rattle.dedup_core.proofs.run.take_inputs.Goals as goal
 use Rattle.dedup_core.proofs.run.take_inputs.Goals.{in-Done, in-Failed}
 

@@ -1,5 +1,4 @@
-use Rattle.dedup_core.proofs.Common.{◌≡◌, [], writer_buffer, writer_contents}
-use Rattle.dedup_core.proofs.InputLemmas.{SoFar}
+use Rattle.dedup_core.proofs.Lemmas.{◌≡◌, [], writer_buffer, writer_contents, SoFar}
 use Rattle.dedup_core.proofs.run.take_inputs.Given as goal
 
 -- the inputs before the place are read, and nothing is held back

@@ -1,5 +1,4 @@
-use Rattle.dedup_core.proofs.Common.{sym, arith, eqb-false, bare_line, strip_bare, on_err}
-use Rattle.dedup_core.proofs.RunLemmas.{breaks_behind, leads_kept}
+use Rattle.dedup_core.proofs.Lemmas.{sym, arith, eqb-false, bare_line, strip_bare, on_err, breaks_behind, leads_kept}
 use Rattle.dedup_core.proofs.run.take_last.Goals as goal
 
 pub take_line-requires-clause-text : goal.take_line-requires-clause-text

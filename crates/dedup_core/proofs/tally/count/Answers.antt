@@ -1,6 +1,4 @@
-use Rattle.dedup_core.proofs.Common.{rules, ◌≡◌, ap, sym, subst, ◌∙◌, set, ◌∷◌, [], ◌++◌, true, false, StandsAt, has, with_text}
-use Rattle.dedup_core.specs.Tallies.{Tallies}
-use Rattle.dedup_core.proofs.SeenLemmas.{is_there, not_there}
+use Rattle.dedup_core.proofs.Lemmas.{rules, ◌≡◌, ap, sym, subst, ◌∙◌, set, ◌∷◌, [], ◌++◌, true, false, StandsAt, has, with_text, Tallies, is_there, not_there}
 use Rattle.dedup_core.proofs.TallyLemmas.{as_many, counted_place, one_more, tallies_again, tallies_new}
 use Rattle.dedup_core.proofs.tally.count.Goals as goal
 

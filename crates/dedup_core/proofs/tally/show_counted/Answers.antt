@@ -1,6 +1,5 @@
-use Rattle.dedup_core.proofs.Common.{ap, ◌∙◌, [], ◌∷◌, ◌++◌, styled_decimal}
+use Rattle.dedup_core.proofs.Lemmas.{ap, ◌∙◌, [], ◌∷◌, ◌++◌, styled_decimal, at_ok}
 use Rattle.dedup_core.proofs.ColumnLemmas.{column_is}
-use Rattle.dedup_core.proofs.SeenLemmas.{at_ok}
 use Rattle.dedup_core.proofs.tally.show_counted.Goals as goal
 
 pub returns : goal.returns

@@ -1,7 +1,4 @@
-use Rattle.dedup_core.proofs.Common.{subst, sym, writer_contents, Appends-kept, part_whole}
-use Rattle.dedup_core.specs.Running.{run_of}
-use Rattle.dedup_core.specs.Tallies.{Tallies, told}
-use Rattle.dedup_core.proofs.InputLemmas.{breaks_behind_all, ends_broken}
+use Rattle.dedup_core.proofs.Lemmas.{subst, sym, writer_contents, Appends-kept, part_whole, Tallies, told, run_of, breaks_behind_all, ends_broken}
 use Rattle.dedup_core.proofs.tally.tally.Goals as goal
 
 pub returns-in_err-flush-clause-ended : goal.returns-in_err-flush-clause-ended

@@ -1,6 +1,5 @@
-use Rattle.dedup_core.proofs.Common.{arith, ap, sym, subst, ◌∙◌, ◌++◌, drop, Appends, Appends-trans, drop_all, on_err, part_behind, part_longer}
+use Rattle.dedup_core.proofs.Lemmas.{arith, ap, sym, subst, ◌∙◌, ◌++◌, drop, Appends, Appends-trans, drop_all, on_err, part_behind, part_longer, listed, listed_more, listed_told}
 use Rattle.std.proofs.lemmas.List.{append-nil}
-use Rattle.dedup_core.proofs.OrderLemmas.{listed, listed_more, listed_told}
 use Rattle.dedup_core.proofs.tally.write_tallies.Goals as goal
 
 pub returns-in_err-show-clause-err : goal.returns-in_err-show-clause-err

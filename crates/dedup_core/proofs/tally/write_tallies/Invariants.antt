@@ -1,5 +1,4 @@
-use Rattle.dedup_core.proofs.Common.{ℕ, List, ◌≡◌, ◌++◌, drop, Appends}
-use Rattle.dedup_core.proofs.OrderLemmas.{listed}
+use Rattle.dedup_core.proofs.Lemmas.{ℕ, List, ◌≡◌, ◌++◌, drop, Appends, listed}
 use Rattle.dedup_core.proofs.tally.write_tallies.Given as goal
 
 -- what was written, and what is left to write

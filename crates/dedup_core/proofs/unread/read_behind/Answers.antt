@@ -1,6 +1,4 @@
-use Rattle.dedup_core.proofs.Common.{◌-◌, ◌<◌, ℕ, Result, Ok, Err, IfOk, take, drop, length, arith, length-take, length-drop}
-use Rattle.std.proofs.Common.{length-take-le}
-use Rattle.dedup_core.proofs.UnreadLemmas.{read_put}
+use Rattle.dedup_core.proofs.Lemmas.{◌-◌, ◌<◌, ℕ, Result, Ok, Err, IfOk, take, drop, length, arith, length-take, length-drop, length-take-le, read_put}
 use Rattle.dedup_core.proofs.unread.read_behind.Goals as goal
 
 -- what holds of a number by three facts of it

@@ -1,5 +1,4 @@
-use Rattle.hash_bloom.proofs.Common.{ap, refl, arith, Filter}
-use Rattle.hash_bloom.proofs.Ones.{count_set-le}
+use Rattle.hash_bloom.proofs.Lemmas.{ap, refl, arith, Filter, count_set-le}
 use Rattle.hash_bloom.proofs.Bloom.estimate.Goals as goal
 
 pub overflow_sub-zeros : goal.overflow_sub-zeros

@@ -1,5 +1,4 @@
-use Rattle.hash_bloom.proofs.Common.{length, ap, refl, ◌∙◌, with_items_is}
-use Rattle.hash_bloom.proofs.Found.{added_is_filter, probe_below, passes_still, passes_added}
+use Rattle.hash_bloom.proofs.Lemmas.{length, ap, refl, ◌∙◌, with_items_is, added_is_filter, probe_below, passes_still, passes_added}
 use Rattle.hash_bloom.proofs.Bloom.insert.Goals as goal
 
 pub invariant_of-self : goal.invariant_of-self

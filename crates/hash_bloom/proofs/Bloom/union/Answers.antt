@@ -1,5 +1,4 @@
-use Rattle.hash_bloom.proofs.Common.{length, ap, refl, ◌∙◌, with_items_is}
-use Rattle.hash_bloom.proofs.Found.{joined_is_filter, passes_still}
+use Rattle.hash_bloom.proofs.Lemmas.{length, ap, refl, ◌∙◌, with_items_is, joined_is_filter, passes_still}
 use Rattle.hash_bloom.proofs.Bloom.union.Goals as goal
 
 pub invariant_of-self : goal.invariant_of-self

@@ -1,5 +1,4 @@
-use Rattle.hash_bloom.proofs.Common.{ap, ◌%◌, ◌∙◌, rules, place}
-use Rattle.hash_bloom.proofs.Places.{next_hash, next_step, all_more}
+use Rattle.hash_bloom.proofs.Lemmas.{ap, ◌%◌, ◌∙◌, rules, place, next_hash, next_step, all_more}
 use Rattle.hash_bloom.proofs.bits.has_all.Goals as goal
 
 pub loop-i-preserved : goal.loop-i-preserved

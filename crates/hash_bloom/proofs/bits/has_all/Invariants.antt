@@ -1,5 +1,4 @@
-use Rattle.hash_bloom.proofs.Common.{◌≡◌, HasAll, place, probe_hash}
-use Rattle.hash_bloom.proofs.Places.{step_of}
+use Rattle.hash_bloom.proofs.Lemmas.{◌≡◌, HasAll, place, probe_hash, step_of}
 use Rattle.hash_bloom.proofs.bits.has_all.Given as goal
 
 abbrev pub invariant-loop-i : goal.invariant-loop-i

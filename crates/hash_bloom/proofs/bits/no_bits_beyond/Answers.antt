@@ -1,6 +1,5 @@
-use Rattle.hash_bloom.proofs.Common.{rules, ◌<◌, ◌^◌, get_or, ◌≢◌, ◌%◌, ◌/◌}
+use Rattle.hash_bloom.proofs.Lemmas.{rules, ◌<◌, ◌^◌, get_or, ◌≢◌, ◌%◌, ◌/◌, clear_beyond}
 use Rattle.std.proofs.lemmas.Bool.Decides.{Decides-eqb}
-use Rattle.hash_bloom.proofs.WordLemmas.{clear_beyond}
 use Rattle.hash_bloom.proofs.bits.no_bits_beyond.Goals as goal
 
 pub returns-else-bits-eq0 : goal.returns-else-bits-eq0

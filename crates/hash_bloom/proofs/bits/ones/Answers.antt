@@ -1,5 +1,4 @@
-use Rattle.hash_bloom.proofs.Common.{◌≡◌, ◌<◌, ◌^◌, ℕ, get_or, ◌∙◌, rules, count_set}
-use Rattle.hash_bloom.proofs.Ones.{ones_of_words, count_set-le}
+use Rattle.hash_bloom.proofs.Lemmas.{◌≡◌, ◌<◌, ◌^◌, ℕ, get_or, ◌∙◌, rules, count_set, ones_of_words, count_set-le}
 use Rattle.hash_bloom.proofs.bits.ones.Goals as goal
 
 is_count : (c : goal.After-ones_of_words) → c.ones_of_words.result ≡ count_set c.args.words.now c.args.bits

@@ -1,5 +1,4 @@
-use Rattle.hash_bloom.proofs.Common.{ap, ◌%◌, ◌∙◌, ◌≡◌, arith, place}
-use Rattle.hash_bloom.proofs.Places.{next_hash, next_step, set_more, before_more}
+use Rattle.hash_bloom.proofs.Lemmas.{ap, ◌%◌, ◌∙◌, ◌≡◌, arith, place, next_hash, next_step, set_more, before_more}
 use Rattle.hash_bloom.proofs.bits.set_all.Goals as goal
 
 pub loop-i-preserved : goal.loop-i-preserved

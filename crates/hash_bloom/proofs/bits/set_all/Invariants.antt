@@ -1,5 +1,4 @@
-use Rattle.hash_bloom.proofs.Common.{ℕ, ◌≡◌, ◌↔◌, ◌⊎◌, IsTrue, HasBit, HasAll, IsAmong, place, probe_hash}
-use Rattle.hash_bloom.proofs.Places.{step_of}
+use Rattle.hash_bloom.proofs.Lemmas.{ℕ, ◌≡◌, ◌↔◌, ◌⊎◌, IsTrue, HasBit, HasAll, IsAmong, place, probe_hash, step_of}
 use Rattle.hash_bloom.proofs.bits.set_all.Given as goal
 
 abbrev pub invariant-loop-i : goal.invariant-loop-i

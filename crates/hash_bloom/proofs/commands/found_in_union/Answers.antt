@@ -1,4 +1,4 @@
-use Rattle.hash_bloom.proofs.Found.{found_exactly}
+use Rattle.hash_bloom.proofs.Lemmas.{found_exactly}
 use Rattle.hash_bloom.proofs.commands.found_in_union.Goals as goal
 
 pub returns-clause-exactly : goal.returns-clause-exactly

@@ -1,5 +1,4 @@
-use Rattle.hash_bloom.proofs.Common.{arith}
-use Rattle.hash_bloom.proofs.Zeros.{expected_both}
+use Rattle.hash_bloom.proofs.Lemmas.{arith, expected_both}
 use Rattle.hash_bloom.proofs.estimate.after_both.Goals as goal
 
 pub returns-clause-expected : goal.returns-clause-expected

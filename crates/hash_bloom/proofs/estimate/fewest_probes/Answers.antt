@@ -1,5 +1,4 @@
-use Rattle.hash_bloom.proofs.Common.{⊎_elim, ◌+◌, ◌-◌, ◌*◌, ◌/◌, ◌^◌, ◌<◌, ◌≤◌, arith, refl, subst, IsWithin, LeavesAtMost, LeavesMore}
-use Rattle.hash_bloom.proofs.Zeros.{expected_first, few, leaves_at_most, leaves_more, more_before}
+use Rattle.hash_bloom.proofs.Lemmas.{⊎_elim, ◌+◌, ◌-◌, ◌*◌, ◌/◌, ◌^◌, ◌<◌, ◌≤◌, arith, refl, subst, IsWithin, LeavesAtMost, LeavesMore, expected_first, few, leaves_at_most, leaves_more, more_before}
 use Rattle.hash_bloom.proofs.estimate.fewest_probes.Goals as goal
 
 pub returns-then-one-limit-clause-at_most : goal.returns-then-one-limit-clause-at_most

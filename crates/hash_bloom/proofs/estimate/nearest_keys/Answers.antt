@@ -1,5 +1,4 @@
-use Rattle.hash_bloom.proofs.Common.{◌*◌, ◌^◌, ◌-◌, ◌≤◌, arith, subst, sym, mul-le-mul_right, pow-le-pow_left, IsNearest}
-use Rattle.hash_bloom.proofs.Zeros.{nearest}
+use Rattle.hash_bloom.proofs.Lemmas.{◌*◌, ◌^◌, ◌-◌, ◌≤◌, arith, subst, sym, mul-le-mul_right, pow-le-pow_left, IsNearest, nearest}
 use Rattle.hash_bloom.proofs.estimate.nearest_keys.Goals as goal
 
 pub returns-then-zeros-bits : goal.returns-then-zeros-bits

@@ -1,5 +1,4 @@
-use Rattle.hash_bloom.proofs.Common.{rules, ◌≡◌, length, Some, Err, sym, ap, ◌∙◌, hex, hex_value, hex_value-hex}
-use Rattle.hash_bloom.proofs.FileLemmas.{field_is, field_read}
+use Rattle.hash_bloom.proofs.Lemmas.{rules, ◌≡◌, length, Some, Err, sym, ap, ◌∙◌, hex, hex_value, hex_value-hex, field_is, field_read}
 use Rattle.hash_bloom.proofs.file.read_field.Goals as goal
 
 pub returns-in_default-clause-refused : goal.returns-in_default-clause-refused

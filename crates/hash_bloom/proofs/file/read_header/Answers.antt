@@ -1,5 +1,4 @@
-use Rattle.hash_bloom.proofs.Common.{rules, ◌≡◌, ◌∙◌, ap, Some, Err}
-use Rattle.hash_bloom.proofs.FileLemmas.{behind_numbers, behind_title, header_parts, header_read, left_behind, same_field}
+use Rattle.hash_bloom.proofs.Lemmas.{rules, ◌≡◌, ◌∙◌, ap, Some, Err, behind_numbers, behind_title, header_parts, header_read, left_behind, same_field}
 use Rattle.hash_bloom.proofs.file.read_header.Goals as goal
 
 pub returns-in_err-read_title-clause-refused : goal.returns-in_err-read_title-clause-refused

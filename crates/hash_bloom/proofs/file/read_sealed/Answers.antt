@@ -1,5 +1,4 @@
-use Rattle.hash_bloom.proofs.Common.{rules, ◌≡◌, ◌++◌, ◌<◌, ◌^◌, ℕ, ap, arith, sym, subst, get_or, ◌∙◌, Some, Err, Consumes, bytes_of, header, seal, filter_of}
-use Rattle.hash_bloom.proofs.FileLemmas.{bytes_tell_words, file_left, file_parts, file_read}
+use Rattle.hash_bloom.proofs.Lemmas.{rules, ◌≡◌, ◌++◌, ◌<◌, ◌^◌, ℕ, ap, arith, sym, subst, get_or, ◌∙◌, Some, Err, Consumes, bytes_of, header, seal, filter_of, bytes_tell_words, file_left, file_parts, file_read}
 use Rattle.hash_bloom.proofs.file.read_sealed.Goals as goal
 
 pub returns-in_err-bits-clause-refused : goal.returns-in_err-bits-clause-refused

@@ -1,5 +1,4 @@
-use Rattle.hash_bloom.proofs.Common.{rules}
-use Rattle.hash_bloom.proofs.FileLemmas.{word_read}
+use Rattle.hash_bloom.proofs.Lemmas.{rules, word_read}
 use Rattle.hash_bloom.proofs.file.read_words.Goals as goal
 
 pub loop-preserved : goal.loop-preserved

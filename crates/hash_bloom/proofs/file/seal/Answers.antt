@@ -1,6 +1,4 @@
-use Rattle.hash_bloom.proofs.Common.{◌∙◌, ap, get_or, to_le_bytes, fnv1a64_basis, fnv1a64_from}
-use mir.Syntax.{w64}
-use Rattle.hash_bloom.proofs.FileLemmas.{hash_more}
+use Rattle.hash_bloom.proofs.Lemmas.{◌∙◌, ap, get_or, to_le_bytes, fnv1a64_basis, fnv1a64_from, w64, hash_more}
 use Rattle.hash_bloom.proofs.file.seal.Goals as goal
 
 pub loop-word-preserved : goal.loop-word-preserved

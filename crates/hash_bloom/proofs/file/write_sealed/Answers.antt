@@ -1,6 +1,4 @@
-use Rattle.hash_bloom.proofs.Common.{subst, sym, Appends, AppendsPart, on_ok_weaker, on_err_weaker, on_err}
-use Rattle.std.proofs.Common.{append-nil}
-use Rattle.hash_bloom.proofs.FileLemmas.{file_written, hash_begun, line_begun, word_begun, word_written}
+use Rattle.hash_bloom.proofs.Lemmas.{subst, sym, Appends, AppendsPart, on_ok_weaker, on_err_weaker, on_err, append-nil, file_written, hash_begun, line_begun, word_begun, word_written}
 use Rattle.hash_bloom.proofs.file.write_sealed.Goals as goal
 
 pub loop-word-init : goal.loop-word-init

@@ -1,5 +1,4 @@
-use Rattle.hash_bloom.proofs.Common.{refl}
-use Rattle.hash_bloom.proofs.Found.{passes_still, passes_added}
+use Rattle.hash_bloom.proofs.Lemmas.{refl, passes_still, passes_added}
 use Rattle.hash_bloom.proofs.words.insert.Goals as goal
 
 pub returns-clause-inserted : goal.returns-clause-inserted

@@ -1,6 +1,4 @@
-use Rattle.hash_bloom.proofs.Common.{arith, ◌<◌, ◌≤◌, ◌∙◌, sym, ap₂, refl, ⊎_elim, length, bit_or, cases_lt, get_or_past}
-use Rattle.hash_bloom.proofs.Found.{passes_still, passes_joined}
-use Rattle.hash_bloom.proofs.WordLemmas.{united}
+use Rattle.hash_bloom.proofs.Lemmas.{arith, ◌<◌, ◌≤◌, ◌∙◌, sym, ap₂, refl, ⊎_elim, length, bit_or, cases_lt, get_or_past, passes_still, passes_joined, united}
 use Rattle.hash_bloom.proofs.words.union.Goals as goal
 
 pub returns-clause-united : goal.returns-clause-united

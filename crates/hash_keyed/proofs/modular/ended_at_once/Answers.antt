@@ -1,5 +1,4 @@
-use Rattle.hash_keyed.proofs.Common.{◌∙◌, arith, refl}
-use Rattle.hash_keyed.proofs.CodeLemmas.{places, ended_is}
+use Rattle.hash_keyed.proofs.Lemmas.{◌∙◌, arith, refl, places, ended_is}
 use Rattle.hash_keyed.proofs.modular.ended_at_once.Goals as goal
 
 pub first_step-requires-clause-word_in : goal.first_step-requires-clause-word_in

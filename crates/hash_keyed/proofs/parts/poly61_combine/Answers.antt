@@ -1,5 +1,4 @@
-use Rattle.hash_keyed.proofs.Common.{◌≡◌, ◌+◌, ◌-◌, ◌/◌, ◌%◌, ◌^◌, ◌∙◌, ap, ap₂, sym, prime61, poly_state, as_word, joined_value}
-use Rattle.hash_keyed.proofs.PartLemmas.{joined-value, joined_is}
+use Rattle.hash_keyed.proofs.Lemmas.{◌≡◌, ◌+◌, ◌-◌, ◌/◌, ◌%◌, ◌^◌, ◌∙◌, ap, ap₂, sym, prime61, poly_state, as_word, joined_value, joined-value, joined_is}
 use Rattle.hash_keyed.proofs.parts.poly61_combine.Goals as goal
 
 value : (c : goal.After-word_of)

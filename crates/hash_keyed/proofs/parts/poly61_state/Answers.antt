@@ -1,5 +1,4 @@
-use Rattle.hash_keyed.proofs.Common.{◌≡◌, ◌∙◌, length, sym, ap, arith, eqb-false, prime61, poly_state, eqb-true}
-use Rattle.hash_keyed.proofs.PartLemmas.{rest-length, state_is}
+use Rattle.hash_keyed.proofs.Lemmas.{◌≡◌, ◌∙◌, length, sym, ap, arith, eqb-false, prime61, poly_state, eqb-true, rest-length, state_is}
 use Rattle.hash_keyed.proofs.parts.poly61_state.Goals as goal
 
 pub returns-then-is_empty : goal.returns-then-is_empty

@@ -1,5 +1,4 @@
-use Rattle.hash_keyed.proofs.Common.{◌≡◌, ◌*◌, ◌/◌, ◌%◌, ◌^◌, ◌∙◌, ap, arith, prime61}
-use Rattle.hash_keyed.proofs.PartLemmas.{power_odd, power_even}
+use Rattle.hash_keyed.proofs.Lemmas.{◌≡◌, ◌*◌, ◌/◌, ◌%◌, ◌^◌, ◌∙◌, ap, arith, prime61, power_odd, power_even}
 use Rattle.hash_keyed.proofs.parts.power.Goals.{then-left-eq1, else-left-eq1}
 use Rattle.hash_keyed.proofs.parts.power.Goals as goal
 

@@ -1,5 +1,4 @@
-use Rattle.hash_keyed.proofs.Common.{sym, arith}
-use Rattle.hash_keyed.proofs.CodeLemmas.{eight_more, seven_more}
+use Rattle.hash_keyed.proofs.Lemmas.{sym, arith, eight_more, seven_more}
 use Rattle.hash_keyed.proofs.words.by_words.Goals as goal
 
 pub loop-block-preserved : goal.loop-block-preserved

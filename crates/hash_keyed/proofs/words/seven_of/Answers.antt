@@ -1,5 +1,4 @@
-use Rattle.hash_keyed.proofs.Common.{◌∙◌, ◌%◌, ap, sym, arith, All-from_get_or, le, IsByte, take_all}
-use Rattle.hash_keyed.proofs.CodeLemmas.{low_word}
+use Rattle.hash_keyed.proofs.Lemmas.{◌∙◌, ◌%◌, ap, sym, arith, All-from_get_or, le, IsByte, take_all, low_word}
 use Rattle.hash_keyed.proofs.words.seven_of.Goals as goal
 
 pub returns-clause-value : goal.returns-clause-value

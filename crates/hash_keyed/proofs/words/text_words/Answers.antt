@@ -1,5 +1,4 @@
-use Rattle.hash_keyed.proofs.Common.{◌∙◌, refl, sym, arith}
-use Rattle.hash_keyed.proofs.CodeLemmas.{eight_more}
+use Rattle.hash_keyed.proofs.Lemmas.{◌∙◌, refl, sym, arith, eight_more}
 use Rattle.hash_keyed.proofs.words.text_words.Goals as goal
 
 pub returns-in-Some-clause-there : goal.returns-in-Some-clause-there

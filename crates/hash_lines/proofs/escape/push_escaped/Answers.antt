@@ -1,6 +1,4 @@
-use Rattle.std.proofs.Common.{arith, ◌++◌, take, get_or, append_assoc, ap, sym, ◌∙◌}
-use Rattle.hash_lines.specs.Escape.{escape, escaped_byte}
-use Rattle.hash_lines.proofs.EscapeLemmas.{escape-take}
+use Rattle.hash_lines.proofs.Lemmas.{arith, ◌++◌, take, get_or, append_assoc, ap, sym, ◌∙◌, escape, escaped_byte, escape-take}
 use Rattle.hash_lines.proofs.escape.push_escaped.Goals as goal
 
 pub loop-byte-preserved : goal.loop-byte-preserved

@@ -1,5 +1,4 @@
-use Rattle.std.proofs.Common.{◌≡◌, ◌++◌, take}
-use Rattle.hash_lines.specs.Escape.{escape}
+use Rattle.hash_lines.proofs.Common.{◌≡◌, ◌++◌, take, escape}
 use Rattle.hash_lines.proofs.escape.push_escaped.Given as goal
 
 abbrev pub invariant-loop-byte : goal.invariant-loop-byte

@@ -1,5 +1,4 @@
-use Rattle.std.proofs.Common.{rules}
-use Rattle.hash_lines.proofs.EscapeLemmas.{no_name, escape_more}
+use Rattle.hash_lines.proofs.Lemmas.{rules, no_name, escape_more}
 use Rattle.hash_lines.proofs.escape.unescaped.Goals as goal
 
 pub returns-in_default : goal.returns-in_default

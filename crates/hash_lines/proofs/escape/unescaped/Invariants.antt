@@ -1,5 +1,4 @@
-use Rattle.std.proofs.Common.{◌≡◌, ◌++◌, length}
-use Rattle.hash_lines.specs.Escape.{escape}
+use Rattle.hash_lines.proofs.Common.{◌≡◌, ◌++◌, length, escape}
 use Rattle.hash_lines.proofs.escape.unescaped.Given as goal
 
 abbrev pub invariant-loop-rest : goal.invariant-loop-rest

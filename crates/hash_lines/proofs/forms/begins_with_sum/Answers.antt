@@ -1,6 +1,4 @@
-use Rattle.std.proofs.Common.{ap, sym, ◌∙◌}
-use Rattle.hash_lines.specs.Forms.{is_sum}
-use Rattle.hash_lines.proofs.FormLemmas.{word_one}
+use Rattle.hash_lines.proofs.Lemmas.{ap, sym, ◌∙◌, is_sum, word_one}
 use Rattle.hash_lines.proofs.forms.begins_with_sum.Goals as goal
 
 pub returns-in-Some-clause-none : goal.returns-in-Some-clause-none

@@ -1,7 +1,4 @@
-use Rattle.std.proofs.Common.{◌≡◌, ◌≤◌, false, All, length, arith, sym, ◌∙◌, subst, take_all}
-use Rattle.std.specs.Char.{is_ascii_whitespace}
-use Rattle.std.proofs.lemmas.List.Elements.{All-more}
-use Rattle.hash_lines.proofs.FormLemmas.{no_word}
+use Rattle.hash_lines.proofs.Lemmas.{◌≡◌, ◌≤◌, false, All, length, arith, sym, ◌∙◌, subst, take_all, is_ascii_whitespace, All-more, no_word}
 use Rattle.hash_lines.proofs.forms.first_word.Goals as goal
 
 pub loop-at-preserved : goal.loop-at-preserved

@@ -1,5 +1,4 @@
-use Rattle.std.proofs.Common.{◌≡◌, false, All, take}
-use Rattle.std.specs.Char.{is_ascii_whitespace}
+use Rattle.hash_lines.proofs.Common.{◌≡◌, false, All, take, is_ascii_whitespace}
 use Rattle.hash_lines.proofs.forms.first_word.Given as goal
 
 -- the bytes so far are no blanks

@@ -1,6 +1,4 @@
-use Rattle.std.proofs.lemmas.Result.{IfOk-weaker}
-use Rattle.hash_lines.specs.Forms.{IsBlankForm, IsTaggedForm}
-use Rattle.hash_lines.proofs.FormLemmas.{blank_plain_one, form_found, found_in, tagged_plain_one}
+use Rattle.hash_lines.proofs.Lemmas.{IfOk-weaker, IsBlankForm, IsTaggedForm, blank_plain_one, form_found, found_in, tagged_plain_one}
 use Rattle.hash_lines.proofs.forms.form_entry.Goals as goal
 
 pub returns : goal.returns

@@ -1,7 +1,4 @@
-use Rattle.std.proofs.Common.{◌≡◌, false, true, inl, inr, sym, ◌∙◌}
-use Rattle.std.proofs.lemmas.Result.{IfOk-weaker}
-use Rattle.hash_lines.specs.Forms.{IsSfvForm}
-use Rattle.hash_lines.proofs.FormLemmas.{found_in, sfv_plain_one, so_found, start_one}
+use Rattle.hash_lines.proofs.Lemmas.{◌≡◌, false, true, inl, inr, sym, ◌∙◌, IfOk-weaker, IsSfvForm, found_in, sfv_plain_one, so_found, start_one}
 use Rattle.hash_lines.proofs.forms.parse_form.Goals as goal
 
 pub returns-then-sfv : goal.returns-then-sfv

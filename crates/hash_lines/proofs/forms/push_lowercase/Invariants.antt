@@ -1,5 +1,4 @@
-use Rattle.std.proofs.Common.{◌≡◌, ◌++◌, map, take}
-use Rattle.std.specs.Char.{to_ascii_lowercase}
+use Rattle.hash_lines.proofs.Common.{◌≡◌, ◌++◌, map, take, to_ascii_lowercase}
 use Rattle.hash_lines.proofs.forms.push_lowercase.Given as goal
 
 -- the bytes so far are there

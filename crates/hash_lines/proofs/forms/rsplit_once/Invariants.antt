@@ -1,5 +1,4 @@
-use Rattle.std.proofs.Common.{◌≤◌, length, drop}
-use Rattle.hash_lines.specs.Forms.{Lacks}
+use Rattle.hash_lines.proofs.Common.{◌≤◌, length, drop, Lacks}
 use Rattle.hash_lines.proofs.forms.rsplit_once.Given as goal
 
 -- the bytes from here on are others

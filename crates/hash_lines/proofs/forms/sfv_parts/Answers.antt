@@ -1,4 +1,4 @@
-use Rattle.hash_lines.proofs.FormLemmas.{crc_found, no_crc}
+use Rattle.hash_lines.proofs.Lemmas.{crc_found, no_crc}
 use Rattle.hash_lines.proofs.forms.sfv_parts.Goals as goal
 
 pub returns-then-begins_with_sum : goal.returns-then-begins_with_sum

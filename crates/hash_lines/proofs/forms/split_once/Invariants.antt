@@ -1,5 +1,4 @@
-use Rattle.std.proofs.Common.{take}
-use Rattle.hash_lines.specs.Forms.{Lacks}
+use Rattle.hash_lines.proofs.Common.{take, Lacks}
 use Rattle.hash_lines.proofs.forms.split_once.Given as goal
 
 -- the bytes so far are others

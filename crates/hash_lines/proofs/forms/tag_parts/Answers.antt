@@ -1,4 +1,4 @@
-use Rattle.hash_lines.proofs.FormLemmas.{no_close, no_equals, no_open}
+use Rattle.hash_lines.proofs.Lemmas.{no_close, no_equals, no_open}
 use Rattle.hash_lines.proofs.forms.tag_parts.Goals as goal
 
 pub returns-in_err-front : goal.returns-in_err-front

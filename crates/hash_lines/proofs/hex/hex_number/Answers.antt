@@ -1,5 +1,4 @@
-use Rattle.std.proofs.Common.{arith, lit<}
-use Rattle.hash_lines.proofs.HexLemmas.{next_fits}
+use Rattle.hash_lines.proofs.Lemmas.{arith, lit<, next_fits}
 use Rattle.hash_lines.proofs.hex.hex_number.Goals as goal
 
 pub overflow_mul-number : goal.overflow_mul-number

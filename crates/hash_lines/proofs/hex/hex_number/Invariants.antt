@@ -1,5 +1,4 @@
-use Rattle.std.proofs.Common.{◌≡◌, ◌^◌, ◌<◌, drop}
-use Rattle.hash_lines.specs.Hex.{hex_value, value_behind}
+use Rattle.hash_lines.proofs.Common.{◌≡◌, ◌^◌, ◌<◌, drop, hex_value, value_behind}
 use Rattle.hash_lines.proofs.hex.hex_number.Given as goal
 
 abbrev pub invariant-loop-byte : goal.invariant-loop-byte

@@ -1,6 +1,4 @@
-use Rattle.std.proofs.Common.{◌≡◌, ◌+◌, ◌-◌, ◌<◌, suc, arith, rules, length, drop, ◌++◌, ap, sym, ◌∙◌}
-use Rattle.hash_lines.specs.Hex.{hex}
-use Rattle.hash_lines.proofs.HexLemmas.{put_digit, put_none}
+use Rattle.hash_lines.proofs.Lemmas.{◌≡◌, ◌+◌, ◌-◌, ◌<◌, suc, arith, rules, length, drop, ◌++◌, ap, sym, ◌∙◌, hex, put_digit, put_none}
 use Rattle.hash_lines.proofs.hex.put_hex.Goals as goal
 
 pub loop-at-init : goal.loop-at-init

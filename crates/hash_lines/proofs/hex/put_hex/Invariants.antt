@@ -1,5 +1,4 @@
-use Rattle.std.proofs.Common.{◌≡◌, ◌-◌, ◌≤◌, length, drop, ◌++◌}
-use Rattle.hash_lines.specs.Hex.{hex}
+use Rattle.hash_lines.proofs.Common.{◌≡◌, ◌-◌, ◌≤◌, length, drop, ◌++◌, hex}
 use Rattle.hash_lines.proofs.hex.put_hex.Given as goal
 
 -- the digits that are left, and those that stand there

@@ -1,4 +1,4 @@
-use Rattle.hash_lines.proofs.OneLemmas.{line_one}
+use Rattle.hash_lines.proofs.Lemmas.{line_one}
 use Rattle.hash_lines.proofs.laws.a_line_tells_one_thing.Goals as goal
 
 pub returns : goal.returns

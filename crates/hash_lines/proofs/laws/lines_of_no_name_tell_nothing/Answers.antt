@@ -1,8 +1,4 @@
-use Rattle.std.proofs.Common.{[], sym}
-use Rattle.hash_lines.specs.Line.{line_of}
-use Rattle.hash_lines.proofs.OneLemmas.{line_shows_one}
-use Rattle.hash_lines.proofs.ShownLemmas.{has_name, line_shows}
-use Rattle.hash_lines.proofs.TellsLemmas.{line_shown}
+use Rattle.hash_lines.proofs.Lemmas.{[], sym, line_of, line_shows_one, has_name, line_shows, line_shown}
 use Rattle.hash_lines.proofs.laws.lines_of_no_name_tell_nothing.Goals as goal
 
 pub returns : goal.returns

@@ -1,7 +1,4 @@
-use Rattle.hash_lines.specs.Line.{line_of}
-use Rattle.hash_lines.proofs.OneLemmas.{line_shows_one}
-use Rattle.hash_lines.proofs.ShownLemmas.{line_shows}
-use Rattle.hash_lines.proofs.TellsLemmas.{line_shown}
+use Rattle.hash_lines.proofs.Lemmas.{line_of, line_shows_one, line_shows, line_shown}
 use Rattle.hash_lines.proofs.laws.what_is_written_is_read.Goals as goal
 
 pub returns : goal.returns

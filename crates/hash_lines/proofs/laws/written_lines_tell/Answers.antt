@@ -1,6 +1,4 @@
-use Rattle.hash_lines.specs.Line.{line_of}
-use Rattle.hash_lines.proofs.ShownLemmas.{line_tells}
-use Rattle.hash_lines.proofs.TellsLemmas.{line_shown}
+use Rattle.hash_lines.proofs.Lemmas.{line_of, line_tells, line_shown}
 use Rattle.hash_lines.proofs.laws.written_lines_tell.Goals as goal
 
 pub returns : goal.returns

@@ -1,6 +1,4 @@
-use Rattle.std.proofs.Common.{codes, sym, ap, ◌∙◌, ◌++◌}
-use lib.Pointwise.{bytes_decides}
-use Rattle.hash_lines.proofs.LineLemmas.{joined_three, middle_is, told_apart}
+use Rattle.hash_lines.proofs.Lemmas.{codes, sym, ap, ◌∙◌, ◌++◌, bytes_decides, joined_three, middle_is, told_apart}
 use Rattle.hash_lines.proofs.parse.around_mark.Goals as goal
 
 pub returns-then-eq : goal.returns-then-eq

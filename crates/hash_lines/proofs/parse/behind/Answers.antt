@@ -1,5 +1,4 @@
-use Rattle.std.proofs.Common.{◌∙◌}
-use Rattle.hash_lines.proofs.LineLemmas.{front_is, told_apart}
+use Rattle.hash_lines.proofs.Lemmas.{◌∙◌, front_is, told_apart}
 use Rattle.hash_lines.proofs.parse.behind.Goals as goal
 
 pub returns-else-eq : goal.returns-else-eq

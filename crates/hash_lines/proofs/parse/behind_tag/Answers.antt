@@ -1,5 +1,4 @@
-use Rattle.std.proofs.Common.{codes}
-use Rattle.hash_lines.proofs.LineLemmas.{behind_both}
+use Rattle.hash_lines.proofs.Lemmas.{codes, behind_both}
 use Rattle.hash_lines.proofs.parse.behind_tag.Goals as goal
 
 pub returns : goal.returns

@@ -1,8 +1,4 @@
-use Rattle.std.proofs.Common.{arith, below_more, sym, ◌∙◌, inl, inr}
-use Rattle.std.proofs.lemmas.List.{get_or_default}
-use Rattle.std.proofs.lemmas.Result.{IfOk-weaker}
-use Rattle.hash_lines.specs.Told.{TellsBody, TellsOf, TellsUntagged}
-use Rattle.hash_lines.proofs.TellsLemmas.{found_as}
+use Rattle.hash_lines.proofs.Lemmas.{arith, below_more, sym, ◌∙◌, inl, inr, TellsBody, TellsOf, TellsUntagged, IfOk-weaker, get_or_default, found_as}
 use Rattle.hash_lines.proofs.parse.body_entry.Goals as goal
 
 pub loop-tagged-init : goal.loop-tagged-init

@@ -1,6 +1,4 @@
-use Rattle.std.proofs.Common.{◌≡◌, ◌<◌, ℕ, List, get_or}
-use Rattle.hash_lines.specs.declared.line.LineKind.{LineKind}
-use Rattle.hash_lines.specs.Told.{TellsTagged}
+use Rattle.hash_lines.proofs.Common.{◌≡◌, ◌<◌, ℕ, List, get_or, TellsTagged, LineKind}
 use Rattle.hash_lines.proofs.parse.body_entry.Given as goal
 
 -- the kinds so far are not told

@@ -1,7 +1,4 @@
-use Rattle.std.proofs.Common.{true, ◌≡◌, ◌∷◌, ◌∙◌, sym}
-use Rattle.std.proofs.lemmas.Result.{IfOk-weaker}
-use Rattle.hash_lines.specs.Told.{TellsBody, TellsEscaped}
-use Rattle.hash_lines.proofs.TellsLemmas.{found_as}
+use Rattle.hash_lines.proofs.Lemmas.{true, ◌≡◌, ◌∷◌, ◌∙◌, sym, TellsBody, TellsEscaped, IfOk-weaker, found_as}
 use Rattle.hash_lines.proofs.parse.escaped_entry.Goals as goal
 
 pub returns-in-Some : goal.returns-in-Some

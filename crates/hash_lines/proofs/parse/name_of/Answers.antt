@@ -1,5 +1,4 @@
-use Rattle.std.proofs.Common.{length, sym, ◌∙◌, eqb-true}
-use Rattle.hash_lines.proofs.ShownLemmas.{none_shown}
+use Rattle.hash_lines.proofs.Lemmas.{length, sym, ◌∙◌, eqb-true, none_shown}
 use Rattle.hash_lines.proofs.parse.name_of.Goals as goal
 
 pub returns-then-is_empty : goal.returns-then-is_empty

@@ -1,7 +1,4 @@
-use Rattle.std.proofs.Common.{false, inl, inr}
-use Rattle.std.proofs.lemmas.Result.{IfOk-weaker}
-use Rattle.hash_lines.specs.Told.{Tells, TellsBody}
-use Rattle.hash_lines.proofs.TellsLemmas.{found_as}
+use Rattle.hash_lines.proofs.Lemmas.{false, inl, inr, Tells, TellsBody, IfOk-weaker, found_as}
 use Rattle.hash_lines.proofs.parse.parse_line.Goals as goal
 
 pub returns-in-None : goal.returns-in-None

@@ -1,7 +1,4 @@
-use Rattle.std.proofs.lemmas.Result.{IfOk-weaker}
-use Rattle.hash_lines.specs.Line.{digits_of, ShowsTagged}
-use Rattle.hash_lines.proofs.LineLemmas.{tagged_shown}
-use Rattle.hash_lines.proofs.TellsLemmas.{found_by}
+use Rattle.hash_lines.proofs.Lemmas.{digits_of, ShowsTagged, IfOk-weaker, tagged_shown, found_by}
 use Rattle.hash_lines.proofs.parse.tagged_entry.Goals as goal
 
 pub returns-in-Some : goal.returns-in-Some

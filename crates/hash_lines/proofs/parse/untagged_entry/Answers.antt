@@ -1,7 +1,4 @@
-use Rattle.std.proofs.lemmas.Result.{IfOk-weaker}
-use Rattle.hash_lines.specs.Line.{digits_of, ShowsUntagged}
-use Rattle.hash_lines.proofs.LineLemmas.{untagged_shown}
-use Rattle.hash_lines.proofs.TellsLemmas.{found_by}
+use Rattle.hash_lines.proofs.Lemmas.{digits_of, ShowsUntagged, IfOk-weaker, untagged_shown, found_by}
 use Rattle.hash_lines.proofs.parse.untagged_entry.Goals as goal
 
 pub returns-in-Some : goal.returns-in-Some

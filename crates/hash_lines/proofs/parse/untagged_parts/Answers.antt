@@ -1,4 +1,4 @@
-use Rattle.hash_lines.proofs.LineLemmas.{no_spaces, no_first_digits}
+use Rattle.hash_lines.proofs.Lemmas.{no_spaces, no_first_digits}
 use Rattle.hash_lines.proofs.parse.untagged_parts.Goals as goal
 
 pub returns-in_err-shown : goal.returns-in_err-shown

@@ -1,5 +1,4 @@
-use Rattle.hash_numbers.proofs.Common.{arith}
-use Rattle.hash_words.proofs.WordLemmas.{le_by_places}
+use Rattle.hash_numbers.proofs.Common.{arith, le_by_places}
 use Rattle.hash_numbers.proofs.hasher.few_of.Goals as goal
 
 pub returns-in-empty-clause-value : goal.returns-in-empty-clause-value

@@ -1,5 +1,4 @@
-use Rattle.hash_numbers.proofs.Common.{ℕ, ◌≡◌, ◌+◌, ◌-◌, ◌*◌, ◌/◌, ◌^◌, length, take, drop, ap₂, ◌∙◌, arith, IsText-from_slice, common_steps}
-use Rattle.hashers.specs.Words.{le}
+use Rattle.hash_numbers.proofs.Common.{ℕ, ◌≡◌, ◌+◌, ◌-◌, ◌*◌, ◌/◌, ◌^◌, length, take, drop, ap₂, ◌∙◌, arith, IsText-from_slice, common_steps, le}
 use Rattle.hash_numbers.proofs.Bytes.{by_eights}
 use Rattle.hash_numbers.proofs.hasher.words_of.Goals as goal
 

@@ -1,5 +1,4 @@
-use Rattle.hash_numbers.proofs.Common.{arith, ap, ap₂, length, ◌+◌, ◌*◌, ◌^◌, [], ◌∷◌, ◌++◌, ◌∙◌, length-append, append-nil, le_bytes, All-cons, All-nil, IsText, le-append, IsText-le_bytes, le-le_bytes, length-le_bytes}
-use Rattle.hashers.specs.Words.{le}
+use Rattle.hash_numbers.proofs.Common.{arith, ap, ap₂, length, ◌+◌, ◌*◌, ◌^◌, [], ◌∷◌, ◌++◌, ◌∙◌, length-append, append-nil, le_bytes, All-cons, All-nil, IsText, le-append, IsText-le_bytes, le-le_bytes, length-le_bytes, le}
 use Rattle.hash_numbers.proofs.Pieces.{of_few}
 use Rattle.hash_numbers.proofs.keys.hash_one_pair.Goals as goal
 

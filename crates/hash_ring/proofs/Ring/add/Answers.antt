@@ -1,7 +1,5 @@
-use Rattle.hash_ring.proofs.Common.{◌≡◌, ◌∙◌, ◌≤◌, ◌++◌, map, ap, sym, subst, refl, length, get_or, arith, length-map, IsPermutation-refl, get_or-insert_at, Node, IsRing, nodes_of, opened_up, pair_of, pairs, points_of, insert, IsPermutation}
+use Rattle.hash_ring.proofs.Lemmas.{◌≡◌, ◌∙◌, ◌≤◌, ◌++◌, map, ap, sym, subst, refl, length, get_or, arith, length-map, IsPermutation-refl, get_or-insert_at, Node, IsRing, nodes_of, opened_up, pair_of, pairs, points_of, insert, IsPermutation, absent, found, gap_read, inserted, len_of, pairs_insert, ring_merged}
 use Rattle.std.specs.FinMap as fin
-use Rattle.hash_ring.proofs.Names.{absent, found, gap_read, inserted, len_of}
-use Rattle.hash_ring.proofs.Edits.{pairs_insert, ring_merged}
 use Rattle.hash_ring.proofs.Ring.add.Goals as goal
 
 pub returns-in-Ok-clause-err : goal.returns-in-Ok-clause-err

@@ -1,6 +1,5 @@
-use Rattle.hash_ring.proofs.Common.{Bool, List, ◌≡◌, ◌≤◌, ◌∙◌, ap, sym, subst, length, T, ◌↔◌, IsTrue, is_sorted, length-map, All-map, All-permutation, IsPermutation-map, IsPermutation-sym, length_permutation, order_does_not_show, Node, ArePoints, pair_of, pairs}
+use Rattle.hash_ring.proofs.Lemmas.{Bool, List, ◌≡◌, ◌≤◌, ◌∙◌, ap, sym, subst, length, T, ◌↔◌, IsTrue, is_sorted, length-map, All-map, All-permutation, IsPermutation-map, IsPermutation-sym, length_permutation, order_does_not_show, Node, ArePoints, pair_of, pairs, KeysDiffer-permutation, all_put_in, by_bytes, entries_are, rising_differ, sorted_rise}
 use Rattle.std.specs.FinMap as fin
-use Rattle.hash_ring.proofs.Names.{KeysDiffer-permutation, all_put_in, by_bytes, entries_are, rising_differ, sorted_rise}
 use Rattle.hash_ring.proofs.Ring.from_nodes.Goals as goal
 
 rise : (sorted now : List Node) (b : Bool) → now ≡ sorted → IsTrue b ↔ T (is_sorted by_bytes (pairs now)) → IsTrue b

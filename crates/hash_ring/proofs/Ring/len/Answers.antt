@@ -1,6 +1,5 @@
-use Rattle.hash_ring.proofs.Common.{sym, ◌∙◌}
+use Rattle.hash_ring.proofs.Lemmas.{sym, ◌∙◌, len_of}
 use Rattle.std.specs.FinMap as fin
-use Rattle.hash_ring.proofs.Names.{len_of}
 use Rattle.hash_ring.proofs.Ring.len.Goals as goal
 
 pub returns : goal.returns

@@ -1,6 +1,4 @@
-use Rattle.hash_ring.proofs.Common.{◌≡◌, ◌<◌, ◌∙◌, ap, sym, subst, arith, length, get_or, get_or_default, length-map, nat_tests, eqb-true, Point, Node, IsOwner, IsRing, name_at, pair_of, pairs, ring_of}
-use Rattle.hash_ring.proofs.PointLemmas.{is_there}
-use Rattle.hash_ring.proofs.Owners.{name_here, no_owner, no_points, none}
+use Rattle.hash_ring.proofs.Lemmas.{◌≡◌, ◌<◌, ◌∙◌, ap, sym, subst, arith, length, get_or, get_or_default, length-map, nat_tests, eqb-true, Point, Node, IsOwner, IsRing, name_at, pair_of, pairs, ring_of, is_there, name_here, no_owner, no_points, none}
 use Rattle.hash_ring.proofs.Ring.owner_at.Goals as goal
 
 pub returns-then-is_empty-clause-none : goal.returns-then-is_empty-clause-none

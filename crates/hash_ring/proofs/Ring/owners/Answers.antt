@@ -1,7 +1,5 @@
-use Rattle.hash_ring.proofs.Common.{ℕ, ◌≡◌, ◌<◌, ◌∙◌, length, min, arith, ap, sym, subst, length-map, texts, AreOwners, IsRing, names_at, node_at, pair_of, pairs, All, IfOk-weaker}
+use Rattle.hash_ring.proofs.Lemmas.{ℕ, ◌≡◌, ◌<◌, ◌∙◌, length, min, arith, ap, sym, subst, length-map, texts, AreOwners, IsRing, names_at, node_at, pair_of, pairs, All, IfOk-weaker, len_of, different}
 use Rattle.std.specs.FinMap as fin
-use Rattle.hash_ring.proofs.Names.{len_of}
-use Rattle.hash_ring.proofs.Owners.{different}
 use Rattle.hash_ring.proofs.Ring.owners.Goals as goal
 
 pub names_of-requires : goal.names_of-requires

@@ -1,7 +1,5 @@
-use Rattle.hash_ring.proofs.Common.{◌≡◌, ◌∙◌, ap, sym, subst, Some, length, take, arith, ◌<◌, [], get_or-map, length-map, IsRing, node_at, nodes_of, pair_of, pairs, remove}
+use Rattle.hash_ring.proofs.Lemmas.{◌≡◌, ◌∙◌, ap, sym, subst, Some, length, take, arith, ◌<◌, [], get_or-map, length-map, IsRing, node_at, nodes_of, pair_of, pairs, remove, absent, entries_of, found, len_of, none_unchanged, removed, over, pairs_remove}
 use Rattle.std.specs.FinMap as fin
-use Rattle.hash_ring.proofs.Names.{absent, entries_of, found, len_of, none_unchanged, removed}
-use Rattle.hash_ring.proofs.Edits.{over, pairs_remove}
 use Rattle.hash_ring.proofs.Ring.remove.Goals as goal
 
 pub returns-in_default-clause-value : goal.returns-in_default-clause-value

@@ -1,7 +1,5 @@
-use Rattle.hash_ring.proofs.Common.{ℕ, ◌≡◌, ◌≢◌, ◌≤◌, ◌<◌, ◌∙◌, ap, sym, subst, length, arith, ⊎_elim, List, cases_lt, Point, AreShares, Nodes, IsRing, nodes_of, pairs}
+use Rattle.hash_ring.proofs.Lemmas.{ℕ, ◌≡◌, ◌≢◌, ◌≤◌, ◌<◌, ◌∙◌, ap, sym, subst, length, arith, ⊎_elim, List, cases_lt, Point, AreShares, Nodes, IsRing, nodes_of, pairs, Pairs, len_of, no_points}
 use Rattle.std.specs.FinMap as fin
-use Rattle.hash_ring.proofs.Names.{Pairs, len_of}
-use Rattle.hash_ring.proofs.Owners.{no_points}
 use Rattle.hash_ring.proofs.Ring.shares.Goals as goal
 
 -- where there is a node there is a point

@@ -1,5 +1,4 @@
-use Rattle.hash_ring.proofs.Common.{◌-◌, length, take, OnTrue_from}
-use Rattle.hash_ring.proofs.Edits.{ring_merged}
+use Rattle.hash_ring.proofs.Lemmas.{◌-◌, length, take, OnTrue_from, ring_merged}
 use Rattle.hash_ring.proofs.points.add.Goals as goal
 
 pub returns-then-may-clause-ring : goal.returns-then-may-clause-ring

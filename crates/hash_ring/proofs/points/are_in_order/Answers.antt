@@ -1,4 +1,4 @@
-use Rattle.hash_ring.proofs.PointLemmas.{sorted_exactly}
+use Rattle.hash_ring.proofs.Lemmas.{sorted_exactly}
 use Rattle.hash_ring.proofs.points.are_in_order.Goals as goal
 
 pub returns : goal.returns

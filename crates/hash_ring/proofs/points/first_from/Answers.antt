@@ -1,5 +1,4 @@
-use Rattle.hash_ring.proofs.Common.{ltb, arith, rules, IsPartitionPoint-from_clause, IsPartitionedBy-ltb, ltb-true, ltb-false}
-use Rattle.hash_ring.proofs.PointLemmas.{places_rise}
+use Rattle.hash_ring.proofs.Lemmas.{ltb, arith, rules, IsPartitionPoint-from_clause, IsPartitionedBy-ltb, ltb-true, ltb-false, places_rise}
 use Rattle.hash_ring.proofs.points.first_from.Goals as goal
 
 pub returns-clause-start : goal.returns-clause-start

@@ -1,5 +1,4 @@
-use Rattle.hash_ring.proofs.Common.{◌+◌, ◌-◌, ◌/◌, ◌≤◌, length, arith, subst, sym, refl}
-use Rattle.hash_ring.proofs.PointLemmas.{IsWindow, narrowed, within_half}
+use Rattle.hash_ring.proofs.Lemmas.{◌+◌, ◌-◌, ◌/◌, ◌≤◌, length, arith, subst, sym, refl, IsWindow, narrowed, within_half}
 use Rattle.hash_ring.proofs.points.first_without_jumps.Goals as goal
 
 pub loop-size-preserved : goal.loop-size-preserved

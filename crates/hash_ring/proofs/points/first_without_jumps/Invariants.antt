@@ -1,5 +1,4 @@
-use Rattle.hash_ring.proofs.Common.{◌+◌, ◌≤◌, length, IsBefore, AllPairs}
-use Rattle.hash_ring.proofs.PointLemmas.{IsWindow}
+use Rattle.hash_ring.proofs.Lemmas.{◌+◌, ◌≤◌, length, IsBefore, AllPairs, IsWindow}
 use Rattle.hash_ring.proofs.points.first_without_jumps.Given as goal
 
 abbrev pub invariant-loop-size : goal.invariant-loop-size

@@ -1,7 +1,4 @@
-use Rattle.hash_ring.proofs.Common.{◌∙◌, ◌≤◌, ◌<◌, ◌+◌, ◌-◌, List, length, get_or, map, take, drop, sym, subst, arith, ◌++◌, get_or_default, Point, IsBefore, opened_up, AllPairs, IsPermutation}
-use Rattle.hash_ring.proofs.PointLemmas.{before_if_less, before_if_not_less}
-use Rattle.hash_ring.proofs.Edits.{opened_in_order}
-use Rattle.hash_ring.proofs.Merge.{IsMerged, all_in_order, all_merged, front_kept, last_other, left_more, placed, right_more}
+use Rattle.hash_ring.proofs.Lemmas.{◌∙◌, ◌≤◌, ◌<◌, ◌+◌, ◌-◌, List, length, get_or, map, take, drop, sym, subst, arith, ◌++◌, get_or_default, Point, IsBefore, opened_up, AllPairs, IsPermutation, before_if_less, before_if_not_less, opened_in_order, IsMerged, all_in_order, all_merged, front_kept, last_other, left_more, placed, right_more}
 use Rattle.hash_ring.proofs.points.merge_backward.Goals as goal
 use Rattle.hash_ring.proofs.points.merge_backward.Goals.{else-right-gt0-via-then-right-gt0+else-lt, else-right-gt0-via-else-right-gt0}
 

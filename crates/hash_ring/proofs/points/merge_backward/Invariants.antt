@@ -1,5 +1,4 @@
-use Rattle.hash_ring.proofs.Common.{◌≡◌, ◌+◌, ◌≤◌, map, take, drop, opened_up}
-use Rattle.hash_ring.proofs.Merge.{IsMerged}
+use Rattle.hash_ring.proofs.Lemmas.{◌≡◌, ◌+◌, ◌≤◌, map, take, drop, opened_up, IsMerged}
 use Rattle.hash_ring.proofs.points.merge_backward.Given as goal
 
 abbrev pub invariant-loop-left : goal.invariant-loop-left

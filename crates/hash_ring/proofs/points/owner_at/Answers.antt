@@ -1,6 +1,4 @@
-use Rattle.hash_ring.proofs.Common.{◌∙◌, ℕ, length, ap, sym, subst, IsOwner, index_round, name_at, nodes_of}
-use Rattle.hash_ring.proofs.PointLemmas.{one_start}
-use Rattle.hash_ring.proofs.Owners.{first_owner}
+use Rattle.hash_ring.proofs.Lemmas.{◌∙◌, ℕ, length, ap, sym, subst, IsOwner, index_round, name_at, nodes_of, one_start, first_owner}
 use Rattle.hash_ring.proofs.points.owner_at.Goals as goal
 
 pub returns-clause-owns : goal.returns-clause-owns

@@ -1,7 +1,6 @@
-use Rattle.hash_ring.proofs.Common.{ℕ, ◌≡◌, ◌≤◌, ◌<◌, ◌+◌, ◌∙◌, ◌++◌, ◌∷◌, [], List, length, get_or, take, drop, arith, sym, ap, subst, nat_eq, list_any, drop-drop, drop-set-lt, length-map, map-append, take_more_set, All-push, IsRing, name_at, names_at, node_at, nodes_of, length-take-le}
+use Rattle.hash_ring.proofs.Lemmas.{ℕ, ◌≡◌, ◌≤◌, ◌<◌, ◌+◌, ◌∙◌, ◌++◌, ◌∷◌, [], List, length, get_or, take, drop, arith, sym, ap, subst, nat_eq, list_any, drop-drop, drop-set-lt, length-map, map-append, take_more_set, All-push, IsRing, name_at, names_at, node_at, nodes_of, length-take-le, AreNamesRound, among_exactly, as_many, name_among, node_among, none, round_all, round_full, round_new, round_of, round_old, spot}
 use Rattle.std.specs.List.{All}
 use Rattle.hash_ring.proofs.PointLemmas.{Pairs, is_there}
-use Rattle.hash_ring.proofs.Owners.{AreNamesRound, among_exactly, as_many, name_among, node_among, none, round_all, round_full, round_new, round_of, round_old, spot}
 use Rattle.hash_ring.proofs.points.owners_at.Goals as goal
 use Rattle.hash_ring.proofs.points.owners_at.Goals.{then-not-contains, else-not-contains}
 

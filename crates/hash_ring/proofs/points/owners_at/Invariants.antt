@@ -1,5 +1,4 @@
-use Rattle.hash_ring.proofs.Common.{ℕ, ◌≡◌, ◌≤◌, ◌<◌, List, length, take, drop, IsRing, names_at, nodes_of, All}
-use Rattle.hash_ring.proofs.Owners.{AreNamesRound, spot}
+use Rattle.hash_ring.proofs.Lemmas.{ℕ, ◌≡◌, ◌≤◌, ◌<◌, List, length, take, drop, IsRing, names_at, nodes_of, All, AreNamesRound, spot}
 use Rattle.hash_ring.proofs.points.owners_at.Given as goal
 
 abbrev pub invariant-loop-steps : goal.invariant-loop-steps

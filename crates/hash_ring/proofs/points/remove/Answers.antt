@@ -1,5 +1,4 @@
-use Rattle.hash_ring.proofs.Common.{sym, subst, IsRing, remove}
-use Rattle.hash_ring.proofs.Edits.{all_gone_over, ring_without}
+use Rattle.hash_ring.proofs.Lemmas.{sym, subst, IsRing, remove, all_gone_over, ring_without}
 use Rattle.hash_ring.proofs.points.remove.Goals as goal
 
 pub returns-clause-kept : goal.returns-clause-kept

@@ -1,4 +1,4 @@
-use Rattle.hash_ring.proofs.PointLemmas.{ArePoints-permutation, in_order}
+use Rattle.hash_ring.proofs.Lemmas.{ArePoints-permutation, in_order}
 use Rattle.hash_ring.proofs.points.sort.Goals as goal
 
 pub returns-clause-ordered : goal.returns-clause-ordered

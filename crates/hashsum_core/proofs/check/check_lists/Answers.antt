@@ -1,7 +1,4 @@
-use Rattle.hashsum_core.proofs.Common.{◌+◌, ◌&&◌, [], ℕ, List, map, take, drop, get_or, subst, sym, writer_contents}
-use denote.Ref.{Bor}
-use Rattle.hashsum_core.specs.Lists.{AreListed}
-use Rattle.hashsum_core.specs.Lists.AreListed.{next_list, no_list}
+use Rattle.hashsum_core.proofs.Common.{◌+◌, ◌&&◌, [], ℕ, List, map, take, drop, get_or, subst, sym, writer_contents, AreListed, next_list, no_list, Bor}
 use Rattle.hashsum_core.proofs.ToldLemmas.{names_more, names_rest}
 use Rattle.hashsum_core.proofs.check.check_lists.Goals as goal
 

@@ -1,5 +1,4 @@
-use Rattle.hashsum_core.proofs.Common.{◌≡◌, [], take, map, writer_buffer, writer_contents}
-use Rattle.hashsum_core.specs.Lists.{AreListed}
+use Rattle.hashsum_core.proofs.Common.{◌≡◌, [], take, map, writer_buffer, writer_contents, AreListed}
 use Rattle.hashsum_core.proofs.check.check_lists.Given as goal
 
 -- the lists so far ended, and nothing of them is held back

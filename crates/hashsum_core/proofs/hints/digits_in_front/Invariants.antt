@@ -1,4 +1,4 @@
-use Rattle.std.proofs.Common.{◌≡◌, drop}
+use Rattle.hashsum_core.proofs.Common.{◌≡◌, drop}
 use Rattle.hashsum_core.specs.Hints.{digits_from, digits_in_front}
 use Rattle.hashsum_core.proofs.hints.digits_in_front.Given as goal
 

@@ -1,8 +1,6 @@
-use Rattle.hashsum_core.proofs.Common.{◌≢◌, ℕ, List, lit<, mod-lt, refl, codes, murmur3_128_of, Murmur3At32, Xxh32}
+use Rattle.hashsum_core.proofs.Common.{◌≢◌, ℕ, List, lit<, mod-lt, refl, codes, murmur3_128_of, Murmur3At32, Xxh32, number_named, kind_named}
 use Rattle.hash_laws.specs.DifferWithin.{DifferInOneBlock}
 use Rattle.hash_blocks.specs.Murmur3x128.{murmur3_128}
-use Rattle.hash_kinds.specs.Named.{kind_named}
-use Rattle.hashsum_core.specs.Sums.{number_named}
 use Rattle.hashsum_core.proofs.KeyLemmas.{parts_are}
 use Rattle.hashsum_core.proofs.LawLemmas.{kind_never_passes, named_never_passes}
 use Rattle.hashsum_core.proofs.laws.a_changed_block_never_passes.Goals as goal

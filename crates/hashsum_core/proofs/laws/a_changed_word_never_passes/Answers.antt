@@ -1,10 +1,8 @@
-use Rattle.hashsum_core.proofs.Common.{ℕ, List, [], ◌∷◌, ◌++◌, All, ap, sym, subst, All-cons, All-nil, DifferAtOnePlace, texts, Ported, FxHash, FxHash32, FxHash64}
-use Rattle.std.proofs.Common.{append-nil}
+use Rattle.hashsum_core.proofs.Common.{ℕ, List, [], ◌∷◌, ◌++◌, All, ap, sym, subst, All-cons, All-nil, DifferAtOnePlace, texts, Ported, FxHash, FxHash32, FxHash64, append-nil, DifferAtOneWord}
 use denote.Bor.{Bor}
 use Rattle.hashers.specs.Fx.{words32, words64}
 use Rattle.hashers.specs.Pieces.{DifferByOneWord}
 use Rattle.hashers.specs.Text.{IsText}
-use Rattle.hashsum_core.specs.Laws.{DifferAtOneWord}
 use Rattle.hashsum_core.proofs.LawLemmas.{kind_never_passes}
 use Rattle.hashsum_core.proofs.laws.a_changed_word_never_passes.Goals as goal
 

@@ -1,5 +1,4 @@
-use Rattle.hashsum_core.proofs.Common.{ℕ, ◌+◌, ◌/◌, ◌^◌, ◌<◌, List, length, fold, lit<, range_with_len, mod_below, xor_lt, lookup3_from, lookup3-AreTwoWords, bits_of, hash_of, read_of, Kind, Ported, Crc32, Crc32c, Fnv1At32, Fnv1At64, Djb2Add, Joaat, Elf, Xxh32, Xxh64, Murmur3At32, Murmur3, SipHash13, SipHash24, Xxh3, Fnv1a32, Fnv1a64, Djb2, Sdbm, LoseLose, Bricolage, Oaat, Lookup3, Spooky, SpookyV1, PassThrough, FxHash, FxHash32, FxHash64, Null}
-use Rattle.hash_laws.specs.Text.{IsText}
+use Rattle.hashsum_core.proofs.Common.{ℕ, ◌+◌, ◌/◌, ◌^◌, ◌<◌, List, length, fold, lit<, range_with_len, mod_below, xor_lt, lookup3_from, lookup3-AreTwoWords, bits_of, hash_of, read_of, Kind, Ported, Crc32, Crc32c, Fnv1At32, Fnv1At64, Djb2Add, Joaat, Elf, Xxh32, Xxh64, Murmur3At32, Murmur3, SipHash13, SipHash24, Xxh3, Fnv1a32, Fnv1a64, Djb2, Sdbm, LoseLose, Bricolage, Oaat, Lookup3, Spooky, SpookyV1, PassThrough, FxHash, FxHash32, FxHash64, Null, IsText}
 use Rattle.hash_bytes.specs.Fnv.{fnv1a32_basis, fnv1a64_basis}
 use Rattle.hash_laws.specs.Reading.{cut}
 use Rattle.hash_more.specs.Crc32.{all_ones}

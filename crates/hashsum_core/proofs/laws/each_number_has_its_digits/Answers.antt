@@ -1,10 +1,6 @@
-use Rattle.hashsum_core.proofs.Common.{ℕ, ◌%◌, ◌^◌, ◌<◌, ◌≤◌, List, arith, lit<, lit≤, digits_of, LineKind, prime61, bits_of, both, Kind, Ported, Fnv1a32}
-use Rattle.hash_laws.specs.Text.{IsText}
-use Rattle.hashsum_core.specs.declared.sums.Sum.{Sum}
+use Rattle.hashsum_core.proofs.Common.{ℕ, ◌%◌, ◌^◌, ◌<◌, ◌≤◌, List, arith, lit<, lit≤, digits_of, LineKind, prime61, bits_of, both, Kind, Ported, Fnv1a32, sum_of, wide_of, width_in, width_of, IsText, Sum, Wide}
 use Rattle.hashsum_core.specs.declared.sums.Sum.TheVariants as sum
-use Rattle.hashsum_core.specs.declared.sums.Wide.{Wide}
 use Rattle.hashsum_core.specs.declared.sums.Wide.TheVariants as wide
-use Rattle.hashsum_core.specs.Sums.{sum_of, wide_of, width_in, width_of}
 use Rattle.hash_theorems.proofs.RangeLemmas.{murmur3_below, spooky_below, xxh128_below}
 use Rattle.hashsum_core.proofs.FitLemmas.{siphash_below}
 use Rattle.hashsum_core.proofs.KeyLemmas.{in_64}

@@ -1,6 +1,5 @@
-use Rattle.hashsum_core.proofs.Common.{ℕ, ◌≡◌, Option, Some, None, true, List, map, refl, sym, ap, ◌∙◌, are_tags}
+use Rattle.hashsum_core.proofs.Common.{ℕ, ◌≡◌, Option, Some, None, true, List, map, refl, sym, ap, ◌∙◌, are_tags, kinds, sum_at, told_of, Told}
 use Rattle.std.proofs.lemmas.Simd.{map-map}
-use Rattle.hashsum_core.specs.Sums.{kinds, sum_at, told_of, Told}
 use Rattle.hashsum_core.proofs.laws.kinds_are_tags.Goals as goal
 
 abbrev name_of : Told → List ℕ

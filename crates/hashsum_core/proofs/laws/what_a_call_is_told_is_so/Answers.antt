@@ -1,6 +1,4 @@
-use Rattle.hashsum_core.proofs.Common.{Some, unwrap_or, All-contains, operands, files_or}
-use Rattle.hashsum_core.specs.Passed.{HasPassed}
-use Rattle.hashsum_core.specs.Program.{asked, checking_of, taken}
+use Rattle.hashsum_core.proofs.Common.{Some, unwrap_or, All-contains, operands, files_or, asked, checking_of, taken, HasPassed}
 use Rattle.hashsum_core.proofs.TellsLemmas.{kind_is_there, taken_are_tags, told_is_so}
 use Rattle.hashsum_core.proofs.laws.what_a_call_is_told_is_so.Goals as goal
 

@@ -1,5 +1,4 @@
-use Rattle.hashsum_core.proofs.Common.{◌^◌, ◌<◌, subst, sym, digits_of}
-use Rattle.hashsum_core.specs.Sums.{sum_at, sum_by}
+use Rattle.hashsum_core.proofs.Common.{◌^◌, ◌<◌, subst, sym, digits_of, sum_at, sum_by}
 use Rattle.hashsum_core.proofs.NameLemmas.{width_is}
 use Rattle.hashsum_core.proofs.laws.what_is_written_of_a_text_tells_its_hash.Goals as goal
 

@@ -1,5 +1,4 @@
-use Rattle.hashsum_core.proofs.Common.{Some, inl, inr, map, ap, ◌∙◌}
-use Rattle.hashsum_core.specs.Sums.{kinds, told_of}
+use Rattle.hashsum_core.proofs.Common.{Some, inl, inr, map, ap, ◌∙◌, kinds, told_of}
 use Rattle.hashsum_core.proofs.outcome.worked.Goals as goal
 
 pub returns-in-Ok-clause-ended : goal.returns-in-Ok-clause-ended

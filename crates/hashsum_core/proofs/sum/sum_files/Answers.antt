@@ -1,6 +1,4 @@
-use Rattle.hashsum_core.proofs.Common.{◌+◌, ◌&&◌, ◌∷◌, ◌++◌, [], ℕ, List, Option, map, take, drop, get_or, is_some, ap, sym}
-use denote.Ref.{Bor}
-use Rattle.hashsum_core.specs.Summing.{IsSummed, line_told}
+use Rattle.hashsum_core.proofs.Common.{◌+◌, ◌&&◌, ◌∷◌, ◌++◌, [], ℕ, List, Option, map, take, drop, get_or, is_some, ap, sym, Bor, IsSummed, line_told}
 use Rattle.hashsum_core.proofs.ToldLemmas.{names_more, names_rest, told_next, torn_within}
 use Rattle.hashsum_core.proofs.sum.sum_files.Goals as goal
 

@@ -1,6 +1,4 @@
-use Rattle.hashsum_core.proofs.Common.{◌≡◌, ℕ, Option, List, [], take, map, is_some, writer_buffer, writer_contents}
-use Rattle.hashsum_core.specs.Summing.{IsSummed, line_told}
-use Rattle.hashsum_core.specs.Told.{AreTold}
+use Rattle.hashsum_core.proofs.Common.{◌≡◌, ℕ, Option, List, [], take, map, is_some, writer_buffer, writer_contents, AreTold, IsSummed, line_told}
 use Rattle.hashsum_core.proofs.sum.sum_files.Given as goal
 
 -- the lines of the files so far are written, and not held back

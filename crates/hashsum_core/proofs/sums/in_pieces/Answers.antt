@@ -1,6 +1,5 @@
-use Rattle.hashsum_core.proofs.Common.{◌≡◌, ◌+◌, ◌-◌, ◌*◌, ◌/◌, ◌%◌, ◌≤◌, ◌∷◌, [], ◌++◌, inl, inr, length, length-drop, length-take-le, take, drop, fold, ap, sym, ◌∙◌, arith, take-add, div-add-mod', cases_lt, fold-append}
+use Rattle.hashsum_core.proofs.Common.{◌≡◌, ◌+◌, ◌-◌, ◌*◌, ◌/◌, ◌%◌, ◌≤◌, ◌∷◌, [], ◌++◌, inl, inr, length, length-drop, length-take-le, take, drop, fold, ap, sym, ◌∙◌, arith, take-add, div-add-mod', cases_lt, fold-append, cut}
 use Rattle.std.proofs.Math.Nat.{add-mod_right}
-use Rattle.hashers.specs.Reading.{cut}
 use Rattle.hashers.proofs.ReadingLemmas.{cut_more}
 use Rattle.hashsum_core.proofs.sums.in_pieces.Goals as goal
 

@@ -1,5 +1,4 @@
-use Rattle.hashsum_core.proofs.Common.{length, take, fold, ◌-◌, ◌≡◌, ◌%◌, ◌≤◌, ◌⊎◌}
-use Rattle.hashers.specs.Reading.{cut}
+use Rattle.hashsum_core.proofs.Common.{length, take, fold, ◌-◌, ◌≡◌, ◌%◌, ◌≤◌, ◌⊎◌, cut}
 use Rattle.hashsum_core.proofs.sums.in_pieces.Given as goal
 
 abbrev pub invariant-loop-done : goal.invariant-loop-done

@@ -1,6 +1,4 @@
-use Rattle.hashsum_core.proofs.Common.{◌≡◌, drop}
-use Rattle.std.proofs.Common.{find}
-use Rattle.hashsum_core.specs.Sums.{is_named}
+use Rattle.hashsum_core.proofs.Common.{◌≡◌, drop, is_named, find}
 use Rattle.hashsum_core.proofs.sums.kind_named.Given as goal
 
 -- the kind is among those that are left

@@ -1,8 +1,6 @@
-use Rattle.hashsum_core.proofs.Common.{◌≡◌, arith, ◌∷◌, ◌++◌, [], List, Vec, map, ap, ap₂, ◌∙◌, sym, map-append, LineKind, range_with_len}
+use Rattle.hashsum_core.proofs.Common.{◌≡◌, arith, ◌∷◌, ◌++◌, [], List, Vec, map, ap, ap₂, ◌∙◌, sym, map-append, LineKind, range_with_len, kinds, told_at, told_of, Told, UNKEYED}
 use Rattle.std.proofs.lemmas.List.{append_assoc, append-nil}
 use Rattle.std.proofs.lemmas.List.FromFn.{map-range_with_len_more}
-use Rattle.hashsum_core.specs.declared.sums.TheConstants.{UNKEYED}
-use Rattle.hashsum_core.specs.Sums.{kinds, told_at, told_of, Told}
 use Rattle.hashsum_core.proofs.sums.kinds.Goals as goal
 use Rattle.hashsum_core.proofs.sums.kinds.Goals.{in-Some+in_ok-push-2+in_ok-push-3, in_default}
 

@@ -1,5 +1,4 @@
-use Rattle.hashsum_core.proofs.Common.{◌≡◌, map, range_with_len}
-use Rattle.hashsum_core.specs.Sums.{told_at, told_of}
+use Rattle.hashsum_core.proofs.Common.{◌≡◌, map, range_with_len, told_at, told_of}
 use Rattle.hashsum_core.proofs.sums.kinds.Given as goal
 
 -- those before

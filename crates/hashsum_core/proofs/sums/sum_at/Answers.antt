@@ -1,9 +1,6 @@
-use Rattle.hashsum_core.proofs.Common.{◌≡◌, ℕ, Option, Some, None, sym, refl, ap, length, slice_get, unwrap_or}
+use Rattle.hashsum_core.proofs.Common.{◌≡◌, ℕ, Option, Some, None, sym, refl, ap, length, slice_get, unwrap_or, sum_at, SUMS, Sum}
 use Rattle.std.proofs.lemmas.Option.{slice_get_read, slice_get_past}
-use Rattle.hashsum_core.specs.Sums.{sum_at}
-use Rattle.hashsum_core.specs.declared.sums.Sum.{Sum}
 use Rattle.hashsum_core.specs.declared.sums.Sum.TheVariants as sum
-use Rattle.hashsum_core.specs.declared.sums.TheConstants.{SUMS}
 use Rattle.hashsum_core.specs.declared.sums.Wide.TheVariants as wide
 use Rattle.hashsum_core.proofs.sums.sum_at.Goals as goal
 

@@ -1,5 +1,4 @@
-use Rattle.std.proofs.Common.{◌≡◌, drop}
-use Rattle.cli.specs.Call.{given, sayings}
+use Rattle.cli.proofs.Common.{◌≡◌, drop, given, sayings}
 use Rattle.cli.proofs.call.Call.gives.Given as goal
 
 -- it is for the sayings that are left to give it

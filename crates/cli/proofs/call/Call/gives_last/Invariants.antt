@@ -1,5 +1,4 @@
-use Rattle.std.proofs.Common.{◌≡◌, fold, drop}
-use Rattle.cli.specs.Call.{given_last, last_after, sayings}
+use Rattle.cli.proofs.Common.{◌≡◌, fold, drop, given_last, last_after, sayings}
 use Rattle.cli.proofs.call.Call.gives_last.Given as goal
 
 -- the sayings that are left make of what is known so far what all make of nothing

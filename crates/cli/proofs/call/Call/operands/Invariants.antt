@@ -1,5 +1,4 @@
-use Rattle.std.proofs.Common.{◌≡◌, ◌++◌, map, drop}
-use Rattle.cli.specs.Call.{operands, sayings}
+use Rattle.cli.proofs.Common.{◌≡◌, ◌++◌, map, drop, operands, sayings}
 use Rattle.cli.proofs.call.Call.operands.Given as goal
 
 -- those that were found, and those of the sayings that are left

@@ -1,5 +1,4 @@
-use Rattle.std.proofs.Common.{◌≡◌, fold, drop, option_map}
-use Rattle.cli.specs.Call.{sayings, value_after, value_of}
+use Rattle.cli.proofs.Common.{◌≡◌, fold, drop, option_map, sayings, value_after, value_of}
 use Rattle.cli.proofs.call.Call.value.Given as goal
 
 -- the sayings that are left make of the last value what all make of none

@@ -1,5 +1,4 @@
-use Rattle.std.proofs.Common.{◌≡◌, drop}
-use Rattle.cli.specs.Call.{sayings, wrongs}
+use Rattle.cli.proofs.Common.{◌≡◌, drop, sayings, wrongs}
 use Rattle.cli.proofs.call.Call.wrong.Given as goal
 
 -- nothing was wrong before

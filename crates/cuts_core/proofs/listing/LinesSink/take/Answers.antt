@@ -1,11 +1,5 @@
-use Rattle.std.proofs.Common.{◌≡◌, List, ℕ, ap₂, subst, ◌∙◌}
-use Rattle.std.specs.Io.Buffered.{writer_contents}
-use Rattle.std.specs.Io.KnownBytes.{Appends}
-use Rattle.streams.proofs.StreamLemmas.{on_err, part_none}
-use Rattle.streams.specs.Streams.{AppendsPart}
-use Rattle.cuts_core.specs.Listing.{chunk_line}
+use Rattle.cuts_core.proofs.Common.{◌≡◌, List, ℕ, ap₂, subst, ◌∙◌, chunk_line, LineKind, writer_contents, AppendsPart, Appends, on_err, part_none}
 use Rattle.cuts_core.proofs.ListingLemmas.{listed_more, listed_part}
-use Rattle.hash_lines.specs.declared.line.LineKind.{LineKind}
 use Rattle.cuts_core.proofs.listing.LinesSink.take.Goals as goal
 
 -- a line by the same hash and name

@@ -1,8 +1,5 @@
-use Rattle.std.proofs.Common.{◌+◌, ◌∷◌, ◌++◌, [], ℕ, List, append_assoc, ap, subst, ◌∙◌}
-use Rattle.cuts_core.specs.Counted.{IsCounted}
-use Rattle.cuts_core.specs.declared.tally.Tally.{Tally}
+use Rattle.cuts_core.proofs.Common.{◌+◌, ◌∷◌, ◌++◌, [], ℕ, List, append_assoc, ap, subst, ◌∙◌, IsCounted, sum_by, Tally}
 use Rattle.cuts_core.proofs.TallyLemmas.{counted_more}
-use Rattle.hashsum_core.specs.Sums.{sum_by}
 use Rattle.cuts_core.proofs.tally.TallySink.take.Goals as goal
 
 pub returns-clause-ok : goal.returns-clause-ok

@@ -1,6 +1,4 @@
-use Rattle.dedup_core.proofs.Common.{false, refl, rules, true, Appends-nil, Keeps-refl, once_begins, on_err}
-use Rattle.dedup_core.proofs.RunLemmas.{breaks_before}
-use Rattle.dedup_core.proofs.SeenLemmas.{is_there, not_there, stops_in_line, takes_line}
+use Rattle.dedup_core.proofs.Lemmas.{false, refl, rules, true, Appends-nil, Keeps-refl, once_begins, on_err, breaks_before, is_there, not_there, stops_in_line, takes_line}
 use Rattle.dedup_core.proofs.once.OnceLineTask.take_line.Goals as goal
 
 pub returns-in_err-see-clause-err : goal.returns-in_err-see-clause-err

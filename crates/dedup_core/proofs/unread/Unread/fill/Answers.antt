@@ -1,5 +1,4 @@
-use Rattle.dedup_core.proofs.Common.{◌++◌, ap, sym, subst, ◌∙◌, append_assoc, length, Consumes-trans, IsBare}
-use Rattle.dedup_core.proofs.UnreadLemmas.{bare_both, found_end, found_none}
+use Rattle.dedup_core.proofs.Lemmas.{◌++◌, ap, sym, subst, ◌∙◌, append_assoc, length, Consumes-trans, IsBare, bare_both, found_end, found_none}
 use Rattle.dedup_core.proofs.unread.Unread.fill.Goals as goal
 
 pub returns-then-is_some : goal.returns-then-is_some

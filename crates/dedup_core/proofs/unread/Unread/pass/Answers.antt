@@ -1,5 +1,4 @@
-use Rattle.dedup_core.proofs.Common.{ap, ◌∙◌, arith, drop, length, length-take, ◌-◌}
-use Rattle.dedup_core.proofs.UnreadLemmas.{pass_more}
+use Rattle.dedup_core.proofs.Lemmas.{ap, ◌∙◌, arith, drop, length, length-take, ◌-◌, pass_more}
 use Rattle.dedup_core.proofs.unread.Unread.pass.Goals as goal
 
 pub returns : goal.returns

@@ -1,5 +1,4 @@
-use Rattle.hash_keyed.proofs.Common.{◌%◌, ap, ◌∙◌, fold, concat, prime61, Position, after, start_at}
-use Rattle.hash_keyed.proofs.WriteLemmas.{after-writes, answer_of_text}
+use Rattle.hash_keyed.proofs.Lemmas.{◌%◌, ap, ◌∙◌, fold, concat, prime61, Position, after, start_at, after-writes, answer_of_text}
 use Rattle.hash_keyed.proofs.keys.Poly61KeysBuildHasher.hash_one.Goals as goal
 
 pub returns-clause-defined : goal.returns-clause-defined

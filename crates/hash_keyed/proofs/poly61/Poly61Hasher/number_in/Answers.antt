@@ -1,5 +1,4 @@
-use Rattle.hash_keyed.proofs.Common.{ap, ◌∙◌, arith, le_bytes, after}
-use Rattle.hash_keyed.proofs.NumberLemmas.{number_kept, number_fills, number_fills_two, rest-lt}
+use Rattle.hash_keyed.proofs.Lemmas.{ap, ◌∙◌, arith, le_bytes, after, number_kept, number_fills, number_fills_two, rest-lt}
 use Rattle.hash_keyed.proofs.poly61.Poly61Hasher.number_in.Goals as goal
 
 pub invariant_of-self : goal.invariant_of-self

@@ -1,5 +1,4 @@
-use Rattle.hash_keyed.proofs.Common.{arith, common_steps}
-use Rattle.hash_keyed.proofs.WriteLemmas.{answer_of_text}
+use Rattle.hash_keyed.proofs.Lemmas.{arith, common_steps, answer_of_text}
 use Rattle.hash_keyed.proofs.poly61.Poly61HasherHasher.finish.Goals as goal
 
 pub returns-clause-of_text : goal.returns-clause-of_text

@@ -1,5 +1,4 @@
-use Rattle.hash_keyed.proofs.Common.{◌/◌, ◌%◌, ◌^◌, sym, ap, ◌∙◌, arith, fold-append, le_bytes, after, byte_in}
-use Rattle.hash_keyed.proofs.NumberLemmas.{le_bytes-halves}
+use Rattle.hash_keyed.proofs.Lemmas.{◌/◌, ◌%◌, ◌^◌, sym, ap, ◌∙◌, arith, fold-append, le_bytes, after, byte_in, le_bytes-halves}
 use Rattle.hash_keyed.proofs.poly61.Poly61HasherHasher.write_u128.Goals as goal
 
 pub returns : goal.returns

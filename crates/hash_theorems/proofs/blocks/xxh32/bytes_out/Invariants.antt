@@ -1,5 +1,4 @@
-use Rattle.hash_theorems.proofs.BlockCommon.{◌≡◌, fold, reverse, rev_source, iter_rest}
-use Rattle.hash_theorems.specs.Xxh32Back.{byte_out}
+use Rattle.hash_theorems.proofs.BlockCommon.{◌≡◌, fold, reverse, rev_source, iter_rest, byte_out}
 use Rattle.hash_theorems.proofs.blocks.xxh32.bytes_out.Given as goal
 
 abbrev pub invariant-loop-byte : goal.invariant-loop-byte

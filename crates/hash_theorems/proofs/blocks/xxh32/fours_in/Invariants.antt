@@ -1,5 +1,4 @@
-use Rattle.hash_theorems.proofs.BlockCommon.{◌≡◌, fold, take, le}
-use Rattle.hash_blocks.specs.Xxh32.{four_in}
+use Rattle.hash_theorems.proofs.BlockCommon.{◌≡◌, fold, take, le, four_in}
 use Rattle.hash_theorems.proofs.blocks.xxh32.fours_in.Given as goal
 
 abbrev pub invariant-loop-four : goal.invariant-loop-four

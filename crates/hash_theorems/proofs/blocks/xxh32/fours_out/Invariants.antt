@@ -1,5 +1,4 @@
-use Rattle.hash_theorems.proofs.BlockCommon.{◌≡◌, fold, reverse, rev_source, iter_rest, le, blocks_before}
-use Rattle.hash_theorems.specs.Xxh32Back.{four_out}
+use Rattle.hash_theorems.proofs.BlockCommon.{◌≡◌, fold, reverse, rev_source, iter_rest, le, blocks_before, four_out}
 use Rattle.hash_theorems.proofs.blocks.xxh32.fours_out.Given as goal
 
 abbrev pub invariant-loop-four : goal.invariant-loop-four

@@ -1,5 +1,4 @@
-use Rattle.hash_theorems.proofs.BlockCommon.{◌≡◌, fold, reverse, slice_index, rev_source, iter_rest, words_of, lane_back}
-use Rattle.hash_theorems.specs.Xxh32Back.{lane_out}
+use Rattle.hash_theorems.proofs.BlockCommon.{◌≡◌, fold, reverse, slice_index, rev_source, iter_rest, words_of, lane_back, lane_out}
 use Rattle.hash_theorems.proofs.blocks.xxh32.lane_back.Given as goal
 
 abbrev pub invariant-loop-block : goal.invariant-loop-block

@@ -1,5 +1,4 @@
-use Rattle.hash_theorems.proofs.BlockCommon.{◌≡◌, fold, take}
-use Rattle.hash_blocks.specs.Xxh32.{after_block}
+use Rattle.hash_theorems.proofs.BlockCommon.{◌≡◌, fold, take, after_block}
 use Rattle.hash_theorems.proofs.blocks.xxh32.lanes_after.Given as goal
 
 abbrev pub invariant-loop-block : goal.invariant-loop-block
