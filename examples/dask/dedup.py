@@ -3,7 +3,7 @@
 
 Each worker runs the program `dedup` over a block, and deals its lines into shards by their fnv1a64. Then `dedup` runs over each shard.
 Equal lines have equal hashes, so they meet in one shard, and `dedup` is proved to write each line of its input once. A task writes a
-temporary file and renames it, so one that is broken off and done again changes nothing. OUT appears once all is done.
+temporary file and renames it, so one that is interrupted and run again changes nothing. OUT appears once all is done.
 """
 import errno
 import os
@@ -34,7 +34,7 @@ def once(program, text, output=subprocess.PIPE):
 
 
 def deal(numbered, shards, folder, program):
-    """Writes each line of a block once, one shard behind the other; in front of them stands where each begins, and the last ends."""
+    """Writes each line of a block once, one shard after the other, preceded by where each begins and the last ends."""
     number, block = numbered
     text = once(program, block.lines())
     dealt = [[] for _ in range(shards)]

@@ -2,9 +2,9 @@
 """Print the hash of each FILE, which workers hash in blocks. A name with a newline, a carriage return or a backslash is escaped, as
 `hashsum` does.
 
-A hash that combines is proved to be that of the joined text if it is made from the hashes of its parts. So each line has the number
+A hash that combines is proved to be that of the whole input if it is made from the hashes of its parts. So each line has the number
 whose digits `hashsum -a NAME FILE` prints. `poly61` has 122 bits, under two keys of 8 bytes each, the lowest byte first, which FILE of
---key-file holds: whoever does not know them has next to no chance to make two files of one hash.
+--key-file holds: whoever does not know them has next to no chance of making two files with one hash.
 """
 import os
 import struct
@@ -31,13 +31,13 @@ def hash_of_file(client, path, name, size):
 
 
 def keyed_part(block, keys, whole):
-    """At each key the state behind the block, or the hash of the last one."""
+    """Under each key the state after the block, or the hash of the last one."""
     text, law = block.bytes(), hashers.poly61 if block.start + block.size == whole else hashers.poly61_state
     return [law(text, key) for key in keys]
 
 
 def keyed_hash_of_file(client, path, keys, size):
-    """The polynomial hash of the file at each key: each block but the last has a multiple of seven bytes, and they are joined from the last
+    """The polynomial hash of the file under each key: each block but the last has a multiple of seven bytes, and they are joined from the last
     to the first."""
     blocks = blocks_of(path, max(7, size // 7 * 7))
     whole = sum(block.size for block in blocks)

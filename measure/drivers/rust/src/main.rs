@@ -1,8 +1,8 @@
 //! Times of the crate in rust/hashers-proved beside the original and the crates fnv, fxhash, rustc-hash and ahash, all inlined, by turns in
 //! one process.
-//! `times RUNS NAME..` prints a line for each name of its hashes of keys, of a text in pieces, and of numbers, then behind an empty line each
-//! a line for each sort of keys of maps, for each hash under a key, and for each sort of numbers as keys of maps: behind a tab each a cell, the
-//! times of its sides in nanoseconds a key or a piece, of each the least of so many runs; of a million numbers of an eighth of them.
+//! `times RUNS NAME..` prints a line for each name of its hashes of keys, of an input in pieces, and of numbers, then after an empty line each
+//! a line for each sort of keys of maps, for each hash under a key, and for each sort of numbers as keys of maps. Cells follow a tab each, and
+//! have the times of their sides in nanoseconds per key or piece: the least of RUNS runs, or for a million numbers of an eighth of them.
 use hashers_proved as ours;
 use std::cell::RefCell;
 use std::collections::hash_map::{DefaultHasher, RandomState};
