@@ -1,6 +1,6 @@
-//! A text cut into chunks where its content says so, so that an edit changes the chunks around it alone.
+//! An input split into chunks where its content says so, so that an edit mostly changes only the chunks around it.
 //!
-//! Each place where a hash of the 64 bytes before it is small is a cut, by a gear: see [`Cuts`].
+//! Each place where the gear hash of the 64 bytes before it is small is a boundary: see [`Cuts`].
 //!
 //! ```
 //! use hashers_proved::cuts::{Cuts, Sizes};
