@@ -1,6 +1,5 @@
 //! Calls of the hashers beside those of the vectors, each once, by vectors, by values of other programs or by hand.
-use crate::tests::{all_hold, none_holds, same};
-use hash_blocks::siphash::{sip_round, sip_unround};
+use crate::tests::{all_hold, same};
 use hashers::fx_hash::{FxHasher, FxHasher32, FxHasher64};
 use hashers::jenkins::spooky_hash::{SpookyHasher, spooky};
 use hashers::jenkins::{Lookup3Hasher, OAATHasher};
@@ -124,25 +123,4 @@ fn words_of_spooky(rt: HostRuntime) {
             hasher.short_words().is_none(),
         ],
     );
-}
-
-/// Numbers that are the answers of no hasher.
-#[test]
-fn answers_of_no_hasher(rt: HostRuntime) {
-    none_holds(
-        &rt,
-        &[
-            DJB2Hasher::unfinish(4294967296).is_some(),
-            FxHasher32::unfinish(4294967296).is_some(),
-        ],
-    );
-}
-
-/// A round of SipHash, and back.
-#[test]
-fn a_round_of_siphash(rt: HostRuntime) {
-    let mut v = [1, 2, 3, 4];
-    sip_round(&mut v);
-    sip_unround(&mut v);
-    same(&rt, &v, &[1, 2, 3, 4]);
 }

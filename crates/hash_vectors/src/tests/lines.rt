@@ -4,7 +4,6 @@ use cli::frame::About;
 use cli::inputs::Complaints;
 use cli::outcome::{failure_of, status_of};
 use dedup_core::outcome::{Outcome, call_of, outcome_of};
-use dedup_core::{Failure, TooMany};
 use std::alloc::Global;
 use std::hash::{BuildHasher, Hasher};
 use std::io;
@@ -240,11 +239,6 @@ fn writes_each_case<H: Fresh>(rt: &impl Abort, alloc: Global, most: usize) {
 }
 
 #[test]
-fn lines_come_once_counted_repeated_and_unique(rt: HostRuntime) {
-    writes_each_case::<RandomKeys>(&rt, rt.alloc(), 64);
-}
-
-#[test]
 fn a_byte_at_a_time_and_all_with_one_hash(rt: HostRuntime) {
     writes_each_case::<Alike>(&rt, rt.alloc(), 1);
 }
@@ -317,21 +311,6 @@ fn interrupted_reads(rt: HostRuntime) {
 }
 
 #[test]
-fn each_fault_is_told(rt: HostRuntime) {
-    let broken = || -> io::Error { io::Error::from(ErrorKind::BrokenPipe) };
-    let told = [
-        (Failure::Unread(broken()), "-"),
-        (Failure::Unwritten(Some(broken())), "write error"),
-        (Failure::Unwritten(None), "write error"),
-        (Failure::NoMemory, "out of memory"),
-        (Failure::Own(TooMany::Texts), "too many different lines"),
-    ];
-    for (fault, failure) in told {
-        all_hold(&rt, &[failure_of(&Outcome::Failed(fault)) == failure]);
-    }
-}
-
-#[test]
 fn a_write_fails_at_each_byte(rt: HostRuntime) {
     for (words, output) in &OUTPUTS {
         for until_fault in 0..output.len() {
@@ -357,67 +336,6 @@ fn a_flush_fails(rt: HostRuntime) {
             all_hold(&rt, &[output.starts_with(paper.text())]);
         }
     }
-}
-
-/// Calls that read nothing, how they end, and what they write.
-const CALLS: [(&[&str], End, &[u8]); 9] = [
-    (&["--help"], WELL, b"help\n"),
-    (&["-c", "--version"], WELL, b"version\n"),
-    (&["--version", "--help"], WELL, b"help\n"),
-    (&["-x"], NO_LETTER, b""),
-    (&["-cx", "--help"], NO_LETTER, b""),
-    (&["--counts"], WRONG, b""),
-    (&["--coun"], WRONG, b""),
-    (&["-c-"], NO_LETTER, b""),
-    (&["--count=1"], (2, "option"), b""),
-];
-
-const WRONG: End = (2, "unrecognized option");
-
-const NO_LETTER: End = (2, "invalid option --");
-
-#[test]
-fn calls_that_read_nothing(rt: HostRuntime) {
-    for (words, end, output) in &CALLS {
-        let script = Script::failing(TEXT, 64, 0);
-        let paper = Paper::sound(64);
-        ends::<RandomKeys>(&rt, rt.alloc(), words, script, paper, *end, output);
-    }
-}
-
-/// Calls with options that go together, and what they write.
-const TOGETHER: [(&[&str], &[u8]); 9] = [
-    (&["-cd"], b"      2 b\n      2 a\n"),
-    (&["--count", "--repeated"], b"      2 b\n      2 a\n"),
-    (&["-c", "-u"], b"      1 c\n"),
-    (&["--unique"], b"c\n"),
-    (&["-du"], b""),
-    (&["-cdu"], b""),
-    (&["-cc"], COUNTED),
-    (&["x", "--", "-c"], ONCE),
-    (&["-", "-d"], b"b\na\n"),
-];
-
-#[test]
-fn options_that_go_together(rt: HostRuntime) {
-    for (words, output) in &TOGETHER {
-        writes::<RandomKeys>(&rt, rt.alloc(), words, TEXT, 3, output);
-    }
-}
-
-#[test]
-fn lines_that_end_with_a_zero_byte(rt: HostRuntime) {
-    let text = b"a\nb\0c\0a\nb\0\0c".as_slice();
-    writes::<RandomKeys>(&rt, rt.alloc(), &["-z"], text, 3, b"a\nb\0c\0\0");
-    let counted = b"      2 a\nb\0      2 c\0      1 \0".as_slice();
-    writes::<RandomKeys>(&rt, rt.alloc(), &["-cz"], text, 64, counted);
-}
-
-#[test]
-fn nobody_reads_any_more(rt: HostRuntime) {
-    let closed = Outcome::Failed(Failure::Unwritten(Some(io::Error::from(ErrorKind::BrokenPipe))));
-    let nothing = Outcome::Failed(Failure::Unwritten(None));
-    all_hold(&rt, &[status_of(&closed) == 141, status_of(&nothing) == 1]);
 }
 
 /// Where a request for memory is refused, what was written is a beginning of the output.

@@ -1,21 +1,19 @@
 //! How evenly hashes spread keys: the numbers over keys in memory.
 use crate::tests::all_hold;
-use cli::frame::{Request, request_of};
 use hash_kinds::table::Kind;
 use hash_names::table::Ported;
 use spread_core::advice::{Advice, advise};
-use spread_core::call::{call_of, kinds_of, settings_of, unknown_name};
 use spread_core::chance::{Chance, equal_pairs, is_within};
-use spread_core::counts::{Counts, Spread, collisions, spread_of};
-use spread_core::failure::{Failure, NoTable};
+use spread_core::counts::{Counts, Spread};
+use spread_core::failure::Failure;
 use spread_core::keys::{Layout, read_keys};
 use spread_core::named::{Hashed, counts_by};
 use spread_core::rows::TableRow;
-use spread_core::sizes::{Sizes, sizes_of};
+use spread_core::sizes::Sizes;
 use std::alloc::{AllocError, Global};
 use std::io::{BufReader, ErrorKind};
 use std::num::NonZeroUsize;
-use streams::rehearsal::{Script, arguments_of};
+use streams::rehearsal::Script;
 use text_set::{RandomKeys, Texts};
 
 /// Lines as most files have them.
@@ -41,38 +39,6 @@ fn keys_of(
     Ok(keys)
 }
 
-/// Whether these are the keys of a text, in their order.
-fn are_keys(alloc: Global, text: &[u8], layout: Layout, wanted: &[&[u8]]) -> bool {
-    match keys_of(alloc, text, layout, usize::MAX) {
-        Ok(keys) => {
-            let mut same = keys.len() == wanted.len();
-            for (key, other) in keys.iter().zip(wanted.iter()) {
-                same = same && key == *other;
-            }
-            same
-        }
-        Err(_) => false,
-    }
-}
-
-#[test]
-fn keys_come_once(rt: HostRuntime) {
-    let alloc = rt.alloc();
-    all_hold(
-        &rt,
-        &[
-            are_keys(alloc, b"b\n\na\nb\nab", LINES, &[b"b", b"", b"a", b"ab"]),
-            are_keys(alloc, b"x\ny\0y\0x\ny", Layout::Lines(0), &[b"x\ny", b"y"]),
-            are_keys(
-                alloc,
-                b"01234\n\0\n\n\n01234",
-                fixed(5),
-                &[b"01234", b"\n\0\n\n\n"],
-            ),
-        ],
-    );
-}
-
 /// Whether the read that fails at that byte is told.
 fn tells_fault(alloc: Global, layout: Layout, until_fault: usize) -> bool {
     match keys_of(alloc, b"b\na\nbc", layout, until_fault) {
@@ -95,69 +61,6 @@ fn a_read_fails_at_each_byte(rt: HostRuntime) {
     }
 }
 
-/// Whether it is told that the last key has fewer bytes than that.
-fn tells_short_key(alloc: Global, text: &[u8], width: usize) -> bool {
-    matches!(
-        keys_of(alloc, text, fixed(width), usize::MAX),
-        Err(Failure::Own(NoTable::ShortKey))
-    )
-}
-
-#[test]
-fn the_input_ends_within_a_key(rt: HostRuntime) {
-    let alloc = rt.alloc();
-    all_hold(
-        &rt,
-        &[
-            tells_short_key(alloc, b"a", 2),
-            tells_short_key(alloc, b"abcdabcdabc", 4),
-        ],
-    );
-}
-
-#[test]
-fn numbers_by_hand(rt: HostRuntime) {
-    let mut hashes = [5, 1, 5, 9, 1, 5];
-    let four = Spread {
-        buckets: 4,
-        fullest: 6,
-        empty: 3,
-        squares: 36,
-    };
-    let five = Spread {
-        buckets: 5,
-        fullest: 3,
-        empty: 2,
-        squares: 14,
-    };
-    all_hold(
-        &rt,
-        &[
-            spread_of(rt.alloc(), &hashes, 4) == Ok(four),
-            spread_of(rt.alloc(), &hashes, 5) == Ok(five),
-            collisions(&mut hashes) == 4,
-            collisions(&mut []) == 0,
-            hashes == [1, 1, 5, 5, 5, 9],
-        ],
-    );
-}
-
-/// The numbers of three keys by a hash, in four buckets and in five.
-fn counts_of_three(alloc: Global, kind: Kind) -> Result<Counts, AllocError> {
-    let sizes = Sizes {
-        first: 4,
-        second: Some(5),
-    };
-    let Ok(keys) = keys_of(alloc, b"ab\nba\nc", LINES, usize::MAX) else {
-        return Err(AllocError);
-    };
-    let mut hashed = Hashed {
-        keys,
-        hashes: Vec::new(alloc),
-    };
-    counts_by(alloc, kind, sizes, &mut hashed)
-}
-
 /// How many pairs are equal, and the sums of squares.
 fn short(counts: Result<Counts, AllocError>) -> (u128, u128, u128) {
     match counts {
@@ -167,18 +70,6 @@ fn short(counts: Result<Counts, AllocError>) -> (u128, u128, u128) {
         },
         _ => (0, 0, 0),
     }
-}
-
-#[test]
-fn numbers_of_names(rt: HostRuntime) {
-    let alloc = rt.alloc();
-    all_hold(
-        &rt,
-        &[
-            short(counts_of_three(alloc, Kind::Ported(Ported::Null))) == (3, 9, 9),
-            short(counts_of_three(alloc, Kind::Ported(Ported::LoseLose))) == (1, 9, 5),
-        ],
-    );
 }
 
 /// Whether two numbers are the same but for rounding.
@@ -248,69 +139,6 @@ fn advice_by_rows(rt: HostRuntime) {
             ),
             matches!(advise(1000, &[far, uneven, equal]), Advice::NoHash),
             matches!(advise(999, &[good, faster]), Advice::TooFew),
-        ],
-    );
-}
-
-/// What the words ask for: the number of buckets, how the keys lie, and whether times are measured.
-fn asked(alloc: Global, words: &[&str]) -> Option<(Option<u64>, Layout, bool)> {
-    let words = arguments_of(alloc, words).ok()?;
-    let call = call_of(alloc, &words).ok()?;
-    match (request_of(&call), settings_of(&call)) {
-        (Request::Work, Ok(settings)) => {
-            let buckets = match settings.buckets {
-                Some(buckets) => Some(buckets.get() as u64),
-                None => None,
-            };
-            Some((buckets, settings.layout, settings.times))
-        }
-        _ => None,
-    }
-}
-
-/// How many hashers the words name.
-fn chosen(alloc: Global, words: &[&str]) -> Option<usize> {
-    let words = arguments_of(alloc, words).ok()?;
-    let call = call_of(alloc, &words).ok()?;
-    match unknown_name(alloc, &call) {
-        Ok(None) => Some(kinds_of(alloc, &call).ok()?.len()),
-        _ => None,
-    }
-}
-
-#[test]
-fn calls_by_the_table(rt: HostRuntime) {
-    let alloc = rt.alloc();
-    all_hold(
-        &rt,
-        &[
-            asked(alloc, &[]) == Some((None, LINES, true)),
-            asked(alloc, &["-zb", "7", "--no-times"]) == Some((Some(7), Layout::Lines(0), false)),
-            asked(alloc, &["--buckets=7", "--plot", "x"]) == Some((Some(7), LINES, true)),
-            asked(alloc, &["-w3"]) == Some((None, fixed(3), true)),
-            asked(alloc, &["-zw3"]).is_none() && asked(alloc, &["--list"]).is_none(),
-            asked(alloc, &["-b0"]).is_none() && asked(alloc, &["-b", "+1"]).is_none(),
-            asked(alloc, &["-w0"]).is_none() && asked(alloc, &["--width=x"]).is_none(),
-            asked(alloc, &["-b"]).is_none() && asked(alloc, &["--plot"]).is_none(),
-            asked(alloc, &["-x"]).is_none() && asked(alloc, &["--help"]).is_none(),
-            chosen(alloc, &[]) == Some(16) && chosen(alloc, &["null", "-z"]) == Some(1),
-            chosen(alloc, &["md5"]).is_none(),
-        ],
-    );
-}
-
-#[test]
-fn buckets_by_the_number_of_keys(rt: HostRuntime) {
-    let of = |keys: u64| {
-        let sizes = sizes_of(keys, None);
-        (sizes.first, sizes.second.unwrap_or(0))
-    };
-    all_hold(
-        &rt,
-        &[
-            of(1) == (1, 3) && of(2) == (2, 3) && of(5) == (8, 9),
-            of(4096) == (4096, 4097) && of(4097) == (8192, 8193),
-            sizes_of(5, Some(7)).first == 7 && sizes_of(5, Some(7)).second.is_none(),
         ],
     );
 }
