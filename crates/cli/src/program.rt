@@ -38,7 +38,7 @@ pub trait Program {
     fn call_of<'a>(alloc: Global, words: &'a [Vec<u8>]) -> Result<Call<'a>, AllocError>
         ensures { IfOk result (λ call. sayings call.said.items ≡ says (texts words.now)) };
 
-    /// Does what the call asks for. An error is want of memory.
+    /// Does what the call asks for. An error means out of memory.
     fn outcome_of<'a>(
         rt: &'a HostRuntime,
         call: &Call<'a>,

@@ -1,5 +1,5 @@
-//! The polynomial hash at a key of the caller's: of a whole text, at two keys, of two texts joined, and of a text in parts. A key is any number, of which the
-//! remainder modulo 2^61 - 1 counts.
+//! The polynomial hash at a key of the caller's: of a whole text, at two keys, of two texts joined, and of a text in parts. A key is any
+//! number, of which the remainder modulo 2^61 - 1 counts.
 ghost use Rattle.std.specs.Prelude.{◌≡◌, ◌≢◌, ◌%◌, ◌++◌};
 ghost use Rattle.hash_c.specs.Common.{ℕ, List, [], length};
 ghost use Rattle.hash_keyed.specs.Poly61.{poly_state, prime61};

@@ -1,4 +1,4 @@
-//! A word of fx, and what of it hangs on its width.
+//! A word of fx, and what depends on its width.
 ghost use Rattle.std.specs.Prelude.{◌≡◌, ◌<◌, ◌^◌, ◌↔◌, ℕ, List, [], All, length, IsSome, IfSome};
 ghost use Rattle.hash_words.specs.Words.{le};
 ghost use Rattle.hash_laws.specs.StepFacts.{StepFacts};

@@ -1,4 +1,4 @@
-//! Hashers of texts that have 128 bits of them.
+//! Hashers of 128 bits.
 ghost use Rattle.std.specs.Prelude.{◌≡◌, ◌+◌, ◌*◌, ◌^◌, ℕ, List};
 ghost use Rattle.hash_kinds.specs.Wide.{both, murmur3_128_of, spooky128, xxh128};
 

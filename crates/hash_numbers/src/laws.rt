@@ -1,6 +1,6 @@
 //! What is proved of the keys under which numbers meet. Each law is a function with no code. A multiplier and an addend
 //! are numbers below 2^128; where they are drawn at random, the share of the pairs of them is the chance. The bounds
-//! hold for numbers that were chosen without knowing the keys, nor anything that hangs on them.
+//! hold for numbers that were chosen without knowing the keys, nor anything that depends on them.
 ghost use Rattle.std.specs.Prelude.{◌≡◌, ◌≢◌, ℕ, ◌+◌, ◌-◌, ◌*◌, ◌/◌, ◌%◌, ◌^◌, ◌<◌, ◌≤◌, max, List, fold, length, All, AllPairs};
 ghost use Rattle.std.specs.List.{concat, count_by, sum_by};
 ghost use Rattle.hashers.specs.Counts.{meetings};
@@ -156,7 +156,7 @@ pub fn few_multipliers_for_pairs()
         → length multipliers ≤ 2 ^ (257 - bits) }
 {}
 
-/// The hash of a key of a map hangs on its bytes alone, in whatever pieces they are written.
+/// The hash of a key of a map depends on its bytes alone, in whatever pieces they are written.
 pub fn pieces_do_not_show()
     ensures { (multiplier multiplier2 addend text_key : ℕ) (pieces : List (List ℕ)) → All IsText pieces
         → answer_of (fold after_write (fresh_at multiplier multiplier2 addend text_key) pieces)

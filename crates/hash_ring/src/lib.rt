@@ -391,7 +391,7 @@ impl<H: Piecewise> Ring<H> {
     }
 
     /// The names of the first `n` different nodes round the ring from the key's hash, or of all nodes where there are fewer. The first is
-    /// the owner, the second would own the key if the first were gone, and so on. It refuses only for want of memory.
+    /// the owner, the second would own the key if the first were gone, and so on. It refuses only when out of memory.
     pub fn owners(&self, alloc: Global, key: &[u8], n: usize) -> Result<Vec<&[u8]>, AllocError>
         ensures own { IfOk result (λ xs.
             AreOwners H.hash_of self.now (H.hash_of key.now) (texts xs.items)) }
@@ -404,7 +404,7 @@ impl<H: Piecewise> Ring<H> {
     }
 
     /// How much of the ring each node owns, in the order of `nodes`: how many of the 2^64 places. Where there is a node they sum up to
-    /// 2^64. It refuses only for want of memory. Under a hash of 32 bits all keys lie in the first 2^32 places, so it says nothing of them.
+    /// 2^64. It refuses only when out of memory. Under a hash of 32 bits all keys lie in the first 2^32 places, so it says nothing of them.
     pub fn shares(&self, alloc: Global) -> Result<Vec<u128>, AllocError>
         ensures each { IfOk result (λ xs. self.now ≢ map.empty → AreShares H.hash_of self.now xs.items) }
         ensures all { IfOk result (λ xs. self.now ≢ map.empty → sum xs.items ≡ 2 ^ 64) }

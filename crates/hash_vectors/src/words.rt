@@ -25,7 +25,7 @@ pub fn words_read_back<F: Piecewise, G: Piecewise>(
     Bloom::from_words(filter.into_words(), bits, probes).ok()
 }
 
-/// A filter, written to a file and read back: it is the same. Only want of memory can be in the way.
+/// A filter, written to a file and read back: it is the same. Only lack of memory can prevent that.
 pub fn file_read_back<F: Piecewise, G: Piecewise>(
     alloc: Global,
     filter: &Bloom<F, G>,

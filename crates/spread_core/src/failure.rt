@@ -41,7 +41,7 @@ impl Words for NoTable {
     }
 }
 
-/// What a failed read of the keys tells: the system's error, or want of memory for a key.
+/// What a failed read of the keys tells: the system's error, or no memory for a key.
 pub fn failure_of_read(error: Error) -> Failure {
     match error.kind() {
         ErrorKind::OutOfMemory => Failure::NoMemory,

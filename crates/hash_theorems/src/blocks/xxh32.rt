@@ -269,8 +269,8 @@ pub fn word_for_xxh32(seed: u32, front: &[u8], back: &[u8], hash: u32) -> [u8; 4
     }
 }
 
-/// From four bytes on XXH32 favours no hash, a law with no code: between a front, whose length 4 divides, and a back exactly one word of four bytes
-/// gives each hash, under every seed.
+/// From four bytes on XXH32 favours no hash, a law with no code: between a front, whose length 4 divides, and a back exactly one word of
+/// four bytes gives each hash, under every seed.
 pub fn xxh32_is_even()
     ensures { (seed hash : ℕ) (front back : List ℕ) → seed < 2 ^ 32 → hash < 2 ^ 32
         → IsText front → IsText back → length front % 4 ≡ 0

@@ -147,7 +147,7 @@ pub fn low_bits_of_a_word()
 {}
 
 /// fx favours no answer, a law with no code: from any state each answer has exactly one word, of eight bytes at 64
-/// bits and of four at 32, which [`WordHasher::word_for`] finds.
+/// bits and of four at 32, which `word_for` of `WordHasher` finds.
 pub fn fx_is_even()
     ensures at_64 { (h answer : ℕ) → h < 2 ^ 64 → answer < 2 ^ 64
         → ExactlyTexts 1 8 (λ word. fx64 h (words64 word) ≡ answer) }

@@ -1,4 +1,4 @@
-//! Hashes by the block under a seed or a key: of a whole text, and of a text in parts. The caller keeps the state.
+//! Block-based hashes under a seed or a key: of a whole text, and of a text in parts. The caller keeps the state.
 
 // What follows is the proved text of crates/hash_c/src/block.rt without its contracts.
 use hashers_proved::{hash_blocks, hash_words};
@@ -27,7 +27,7 @@ const SIPHASH24: u64 = 0x5b39_d3a6_8cf0_7106;
 // What hashers.h reserves for a state.
 const _: () = prove!(size_of::<BlockState>() == 96);
 
-/// Where a hash by the block stands in a text: a mark that tells which hash, what is kept of the whole blocks, the length
+/// Where a block-based hash stands in a text: a mark that tells which hash, what is kept of the whole blocks, the length
 /// modulo 2^64, and what is left behind the blocks. The fields are whole numbers, so that any bytes are a state.
 #[repr(C)]
 #[derive(Clone, Copy)]

@@ -1,6 +1,5 @@
-//! The polynomial hash at a key of the caller's: of a whole text, at two keys, of two texts joined, and of a text in parts.
-//! A key is any number, of which the
-//! remainder modulo 2^61 - 1 counts.
+//! The polynomial hash at a key of the caller's: of a whole text, at two keys, of two texts joined, and of a text in parts. A key is any
+//! number, of which the remainder modulo 2^61 - 1 counts.
 
 // What follows is the proved text of crates/hash_c/src/keyed.rt without its contracts.
 use crate::std;

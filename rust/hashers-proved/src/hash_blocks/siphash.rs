@@ -1,4 +1,4 @@
-//! SipHash-c-d, by Jean-Philippe Aumasson and Daniel J. Bernstein: a hash by the block under a key of 128 bits.
+//! SipHash-c-d, by Jean-Philippe Aumasson and Daniel J. Bernstein: a block-based hash under a key of 128 bits.
 
 // What follows is the proved text of crates/hash_blocks/src/siphash.rt without its contracts.
 

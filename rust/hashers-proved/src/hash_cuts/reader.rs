@@ -264,9 +264,8 @@ pub fn cut_reader_by<R: Read, S: Sink>(
 
 /// Reads to the end, or up to `limit` bytes, and gives the sink the chunks, the same ones however the reader cuts its bytes.
 ///
-/// It takes memory as the longest chunk needs, for `most` bytes at most.
-/// At the limit, which was met if `ended` is `false`, and after a read's error, `Interrupted`
-/// too, the sink has the chunks that end within the bytes read, and not the one that was begun.
+/// It takes memory as the longest chunk needs, for `most` bytes at most. At the limit, which was met if `ended` is `false`, and after a
+/// read's error, `Interrupted` too, the sink has the chunks that end within the bytes read, and not the one that was begun.
 ///
 /// Proved:
 ///

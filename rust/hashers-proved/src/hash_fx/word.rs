@@ -1,4 +1,4 @@
-//! A word of fx, and what of it hangs on its width.
+//! A word of fx, and what depends on its width.
 
 // What follows is the proved text of crates/hash_fx/src/word.rt without its contracts.
 use crate::{hash_laws, hash_words};

@@ -1,4 +1,4 @@
-//! Hashers of texts that have 128 bits of them.
+//! Hashers of 128 bits.
 
 // What follows is the proved text of crates/hash_kinds/src/wide.rt without its contracts.
 use crate::{hash_blocks, hash_jenkins, hash_laws, hash_xxh3};

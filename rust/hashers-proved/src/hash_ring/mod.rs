@@ -492,7 +492,7 @@ impl<H: Piecewise> Ring<H> {
     }
 
     /// The names of the first `n` different nodes round the ring from the key's hash, or of all nodes where there are fewer. The first is
-    /// the owner, the second would own the key if the first were gone, and so on. It refuses only for want of memory.
+    /// the owner, the second would own the key if the first were gone, and so on. It refuses only when out of memory.
     ///
     /// Proved:
     ///
@@ -510,7 +510,7 @@ impl<H: Piecewise> Ring<H> {
     }
 
     /// How much of the ring each node owns, in the order of `nodes`: how many of the 2^64 places. Where there is a node they sum up to
-    /// 2^64. It refuses only for want of memory. Under a hash of 32 bits all keys lie in the first 2^32 places, so it says nothing of them.
+    /// 2^64. It refuses only when out of memory. Under a hash of 32 bits all keys lie in the first 2^32 places, so it says nothing of them.
     ///
     /// Proved:
     ///

@@ -1,4 +1,4 @@
-//! XXH3 of 64 bits (Yann Collet, xxHash 0.8): a fast hash of a text under a seed, not cryptographic.
+//! XXH3 of 64 and 128 bits (Yann Collet, xxHash 0.8): a fast hash of a text under a seed, not cryptographic.
 
 // What follows is the proved text of crates/hash_xxh3/src/lib.rt without its contracts.
 

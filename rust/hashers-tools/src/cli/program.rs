@@ -36,7 +36,7 @@ pub trait Program {
     /// ```
     fn call_of<'a>(alloc: Global, words: &'a [Vec<u8>]) -> Result<Call<'a>, AllocError>;
 
-    /// Does what the call asks for. An error is want of memory.
+    /// Does what the call asks for. An error means out of memory.
     ///
     /// Proved:
     ///

@@ -45,7 +45,7 @@ impl Words for NoTable {
     }
 }
 
-/// What a failed read of the keys tells: the system's error, or want of memory for a key.
+/// What a failed read of the keys tells: the system's error, or no memory for a key.
 #[inline]
 pub fn failure_of_read(error: Error) -> Failure {
     match error.kind() {
