@@ -1,5 +1,5 @@
 -- Inputs, one behind the other.
-use Rattle.dedup_core.proofs.Common.{◌≡◌, ◌≢◌, ℕ, ◌+◌, ◌<◌, ◌≤◌, ◌&&◌, inr, Bool, true, false, Result, Ok, Err, List, [], ◌∷◌, ◌++◌, length, map, set, get_or, take, drop, Option, None, Some, ap, sym, ◌∙◌, refl, subst, take-append-drop, length-append, arith, drop-cons, is_some, IsErr, Appends, Keeps, Appends-kept, Appends-nil, and_parts, false≢true, drop-drop, drop-set-lt, map-append, take_more, take_more_set, AppendsPart, list_all, flat_map-append, lines_by, part_behind, At, BeginWith, BreaksInput, Broke, Leads, AreRead, ReadsInput, AllBeginWith, BreaksBehind, EndsBehind, EndsTaking, NextBeginsWith, Run}
+use Rattle.dedup_core.proofs.Common.{◌≡◌, ℕ, ◌+◌, ◌<◌, ◌&&◌, inr, Bool, true, false, Result, Ok, Err, List, [], ◌∷◌, ◌++◌, length, map, set, get_or, take, drop, Option, None, Some, ap, sym, ◌∙◌, refl, subst, take-append-drop, arith, drop-cons, is_some, IsErr, Appends, Keeps, Appends-kept, Appends-nil, and_parts, false≢true, drop-drop, drop-set-lt, map-append, take_more, take_more_set, AppendsPart, list_all, flat_map-append, lines_by, part_behind, At, BeginWith, BreaksInput, Broke, Leads, AreRead, ReadsInput, AllBeginWith, BreaksBehind, EndsBehind, EndsTaking, NextBeginsWith, Run}
 use Rattle.std.proofs.lemmas.List.{append-nil}
 use Rattle.std.specs.List.{flat_map}
 use Rattle.std.proofs.lemmas.List.Folds.{flat_map-map, list_all-append}

@@ -1,5 +1,5 @@
 -- What was read of an input and taken of it, and what is written of that.
-use Rattle.dedup_core.proofs.Common.{◌≡◌, ℕ, ◌+◌, ◌-◌, ◌<◌, ◌≤◌, inl, inr, true, false, List, [], ◌∷◌, ◌++◌, length, take, drop, ap, sym, ◌∙◌, refl, subst, Option, None, Some, append_assoc, length-append, arith, ends_with_byte, Consumes, Keeps, IsAtEnd, Appends-kept, Consumes-trans, Consumes-whole, cases_lt, false≢true, part_whole, IsBare, IsLineEnd, lines_by, bare_end, bare_line, first_ends, first_line, some_line, Filled, Splits, Takes, append-nil, At, BeginWith, BreaksInput, Broke, Grows, Leads, ReadsInput, whole_lines}
+use Rattle.dedup_core.proofs.Common.{◌≡◌, ℕ, ◌+◌, true, false, List, [], ◌∷◌, ◌++◌, length, take, drop, ap, sym, ◌∙◌, refl, subst, Option, None, Some, append_assoc, arith, ends_with_byte, Consumes, Keeps, IsAtEnd, Appends-kept, Consumes-trans, Consumes-whole, false≢true, part_whole, IsBare, IsLineEnd, lines_by, bare_end, bare_line, first_ends, first_line, Filled, Splits, Takes, append-nil, At, BeginWith, BreaksInput, Broke, Grows, Leads, ReadsInput, whole_lines}
 use Rattle.std.proofs.lemmas.List.Elements.{filter-append}
 use Rattle.streams.proofs.RecordLemmas.{first_all, first_behind, first_both, first_none}
 use Rattle.dedup_core.specs.declared.unread.NextLine.{NextLine}

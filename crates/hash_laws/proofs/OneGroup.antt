@@ -1,5 +1,5 @@
 -- Texts that differ within one group of places alone, as a block.
-use Rattle.hash_laws.proofs.WindowCommon.{◌≡◌, ◌≢◌, ◌↔◌, ℕ, ◌+◌, ◌-◌, ◌<◌, ◌≤◌, Bool, IsTrue, nat_eq, List, ◌++◌, length, get_or, take, drop, arith, sym, ap, ◌∙◌, inl, inr, ⊎_elim, length-append, length-drop, cases_lt, cases_eq, Decides-eqb, append_cancel_left, append_cancel_right, slice_eq-Decides, pointwise, IsFirstDifference, DifferInOne, AgreeFrom}
+use Rattle.hash_laws.proofs.WindowCommon.{◌≡◌, ◌≢◌, ◌↔◌, ℕ, ◌+◌, ◌-◌, ◌<◌, ◌≤◌, Bool, IsTrue, nat_eq, List, ◌++◌, length, get_or, take, drop, arith, sym, ap, ◌∙◌, inl, inr, ⊎_elim, length-drop, cases_lt, cases_eq, Decides-eqb, slice_eq-Decides, pointwise, IsFirstDifference, DifferInOne, AgreeFrom}
 use Rattle.std.proofs.lemmas.List.{ext_get_or, get_or-drop, take_all}
 use Rattle.hash_laws.proofs.FrameLemmas.{middles_differ, middles_length, same_outside}
 

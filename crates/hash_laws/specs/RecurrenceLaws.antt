@@ -1,5 +1,5 @@
 -- Recurrences by the last byte, from the front too.
-use Rattle.std.specs.Prelude.{◌≡◌, ◌+◌, ◌-◌, ◌*◌, ◌/◌, ◌%◌, ◌<◌, ◌≤◌, ◌∷◌, ◌++◌}
+use Rattle.std.specs.Prelude.{◌≡◌, ◌+◌, ◌*◌, ◌/◌, ◌%◌, ◌<◌, ◌≤◌, ◌∷◌, ◌++◌}
 use Rattle.hash_laws.specs.Common.{ℕ, zero, suc, arith, List, [], length, take, drop, get_or, fold, refl, ap, sym, ◌∙◌, flat_map, reverse-append, take_more, take-append-drop, length-drop, nil_from_length}
 use Rattle.std.proofs.lemmas.List.{append-nil, append_assoc, take_all}
 use Rattle.std.specs.Simd.{first_chunks}

@@ -1,7 +1,7 @@
 -- No state of fx favours an answer.
-use Rattle.hash_theorems.proofs.FxCommon.{◌≡◌, ℕ, ◌*◌, ◌%◌, ◌^◌, ◌<◌, List, [], ◌∷◌, length, take, drop, bit_xor, refl, sym, ap, ◌∙◌, arith, drop_all, xor_lt, mod_below, pow_pos, StepFacts, le-lt, le-same, IsText-le_bytes, fx32, fx32_step, fx64, fx64_step, words32, words64, fx32_facts, fx64_facts, of_byte, le_bytes, pieces, le, rotl, recurrence}
+use Rattle.hash_theorems.proofs.FxCommon.{◌≡◌, ℕ, ◌^◌, ◌<◌, List, [], ◌∷◌, length, take, drop, refl, sym, ap, ◌∙◌, arith, drop_all, le-lt, le-same, IsText-le_bytes, fx32, fx32_step, fx64, fx64_step, words32, words64, of_byte, le_bytes, pieces, le, recurrence}
 use Rattle.std.proofs.lemmas.List.{take_all}
-use Rattle.hash_words.proofs.WordLemmas.{rotl-lt, le-to_le_bytes-32, le-to_le_bytes-64}
+use Rattle.hash_words.proofs.WordLemmas.{le-to_le_bytes-32, le-to_le_bytes-64}
 use Rattle.hash_words.specs.Undoes.{UndoesWords}
 use Rattle.hash_words.proofs.UndoLemmas.{solved}
 use Rattle.hash_laws.specs.Exactly.{ExactlyTexts}

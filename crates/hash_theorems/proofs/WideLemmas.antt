@@ -1,8 +1,7 @@
 -- The hash of 128 bits loses nothing of texts of one length of at most 16 bytes.
-use Rattle.hash_theorems.proofs.Xxh3Common.{◌≡◌, ℕ, ◌+◌, ◌-◌, ◌*◌, ◌/◌, ◌%◌, ◌^◌, ◌<◌, ◌≤◌, nat_lt, true, false, List, ◌++◌, length, w64, bit_xor, refl, sym, ◌∙◌, ap, lit<, lit≤, arith, inl, inr, ap₂, mul-div_cancel, cases_lt, nat_tests, nil_from_length, mod_below, shr_split, IsText, add, Undoes, IsPiece, to_le_bytes, ◌▷◌, likewise, told, xored, multiplied, shifted, shifted_less, word-same, word_at, half_at, times, xxh3_64_of}
+use Rattle.hash_theorems.proofs.Xxh3Common.{◌≡◌, ℕ, ◌+◌, ◌-◌, ◌*◌, ◌/◌, ◌%◌, ◌^◌, ◌<◌, ◌≤◌, nat_lt, true, false, List, ◌++◌, length, w64, bit_xor, refl, sym, ◌∙◌, ap, lit<, lit≤, arith, inl, inr, ap₂, mul-div_cancel, cases_lt, nat_tests, nil_from_length, mod_below, shr_split, IsText, add, Undoes, IsPiece, to_le_bytes, ◌▷◌, likewise, told, xored, multiplied, shifted, shifted_less, word-same, word_at, half_at, times}
 use Rattle.hash_xxh3.specs.Wide
-use Rattle.hash_xxh3.specs.Long.{end_long, long_under}
-use Rattle.hash_theorems.proofs.ShortLemmas.{piece-lt, by_ends, of_few-same, is_few as of_few-is, word_at-lt}
+use Rattle.hash_theorems.proofs.ShortLemmas.{piece-lt, by_ends, of_few-same, word_at-lt}
 use Rattle.hash_theorems.proofs.MixLemmas.{of_avalanche}
 use Rattle.hash_theorems.proofs.SixteenLemmas.{AreTwo, un_words, of_sixteen_bytes, high-lt, of_words, of_sixteen_words, by_words}
 

@@ -1,4 +1,4 @@
-use Rattle.hash_laws.specs.Common.{ℕ, ◌≡◌, ◌<◌, [], ◌++◌, sym, Bor, List, subst, arith, ⊎_elim, All-append, IsText, joined}
+use Rattle.hash_laws.specs.Common.{ℕ, ◌<◌, [], sym, Bor, List, subst, arith, ⊎_elim, All-append}
 use Rattle.std.proofs.Common.{take_all}
 use Rattle.std.proofs.lemmas.Bool.{cases_lt}
 use Rattle.hash_laws.specs.TextLaws.{joined_more}

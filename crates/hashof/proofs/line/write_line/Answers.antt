@@ -1,6 +1,5 @@
 use Rattle.std.proofs.Common.{[], append-nil, sym}
 use Rattle.std.proofs.KnownBytes.{Appends-kept}
-use Rattle.hashof.specs.Line.{line_of}
 use Rattle.hashof.proofs.line.write_line.Goals as goal
 
 -- a flush keeps what was written
