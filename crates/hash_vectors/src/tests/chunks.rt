@@ -1,6 +1,6 @@
 //! What `cuts` does over files in memory. The lines were computed by another program, from the definitions.
 use crate::tests::all_hold_at;
-use crate::tests::shelf::{Came, Shelf, ended_or_told, has_ended};
+use crate::tests::shelf::{Came, Shelf, ended_or_told};
 use cli::frame::About;
 use cli::outcome::{failure_of, status_of};
 use cuts_core::listing::Lines;
@@ -66,54 +66,6 @@ fn small<'a>(alloc: Global, more: &[&'a str]) -> io::Result<Vec<&'a str>> {
     words.extend_from_slice(&SMALL)?;
     words.extend_from_slice(more)?;
     Ok(words)
-}
-
-/// That a call for small chunks ends so, and writes this.
-fn ends(
-    rt: &impl Abort,
-    alloc: Global,
-    more: &[&str],
-    files: &[File<'_>],
-    status: u8,
-    output: &str,
-) {
-    let mut paper = Paper::sound(64);
-    let words = small(alloc, more).expect(rt, "memory");
-    let came = run(alloc, &words, files, &mut paper);
-    has_ended(rt, came, &paper, status, output);
-}
-
-#[test]
-fn lines_of_chunks(rt: HostRuntime) {
-    let alloc = rt.alloc();
-    let text = made();
-    let files = [
-        whole(b"keys", &KEYS),
-        whole(b"zeros", &[0; 16]),
-        whole(b"short", b"123456789"),
-        whole(b"none", b""),
-        whole(b"a", &text),
-        whole(b"a\n", &text[..122]),
-        whole(b"-", &text[..700]),
-    ];
-    ends(&rt, alloc, &["a"], &files, 0, LINES);
-    ends(
-        &rt,
-        alloc,
-        &["short", "none", "a\n"],
-        &files,
-        0,
-        "0 9 cbf43926  short\n0 122 \\641f71be  a\\n\n",
-    );
-    ends(
-        &rt,
-        alloc,
-        &["--key-file=zeros"],
-        &files,
-        0,
-        "0 700 ce37e94f  -\n",
-    );
-    ends(&rt, alloc, &["--key-file=a", "a"], &files, 1, "");
 }
 
 /// Of a file that fails the chunks have lines that end within the bytes before, and the next file is read.
