@@ -41,7 +41,7 @@ AgreeFrom-iff-eq x y place answer len eq =
     )
 
 -- two middles of one frame, all of whose places are of one group
-pub middles-DifferInOne : (group : ℕ → ℕ) (front x y back : List ℕ) → length x ≡ length y → x ≢ y
+abbrev pub middles-DifferInOne : (group : ℕ → ℕ) (front x y back : List ℕ) → length x ≡ length y → x ≢ y
     → ((i : ℕ) → length front ≤ i → i < length front + length x → group i ≡ group (length front))
     → DifferInOne group (front ++ (x ++ back)) (front ++ (y ++ back))
 middles-DifferInOne group front x y back len different inside = record {
