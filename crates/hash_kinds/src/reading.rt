@@ -6,7 +6,7 @@ ghost use Rattle.hash_laws.specs.LimitedLaws.{Hashes-agree};
 
 use crate::table::{Kind, by_kind};
 use crate::wide::WideHash;
-use hash_laws::reading::limited::{fed, hash_of_pieces, hash_of_text};
+use hash_laws::reading::limited::{fed, hash_of_text};
 use hash_laws::traits::{Piecewise, Streamed};
 pub use hash_names::reading::{PIECE, Unhashed};
 use hash_names::task::HashTask;
@@ -48,7 +48,8 @@ impl<R: Read> HashTask for HashRead<R> {
     }
 
     fn by_pieces<H: Piecewise>(limit: u64, r: &mut R) -> Result<u64, Unhashed> {
-        hash_of_pieces::<H, R, PIECE>(limit, r)
+        let hasher = fed::<H, R, PIECE>(limit, r)?;
+        Ok(hasher.answer())
     }
 
     ghost by_same = { λ hash of_read same agree limit r s.

@@ -7,7 +7,7 @@ ghost use Rattle.hash_laws.specs.LimitedLaws.{Hashes-agree};
 use crate::table::{by_ported, ported_named};
 use crate::task::HashTask;
 pub use hash_laws::reading::limited::Unhashed;
-use hash_laws::reading::limited::{hash_of_pieces, hash_of_text};
+use hash_laws::reading::limited::{fed, hash_of_text};
 use hash_laws::traits::{Piecewise, Streamed};
 use std::io::Read;
 use std::marker::PhantomData;
@@ -34,7 +34,8 @@ impl<R: Read> HashTask for HashRead<R> {
     }
 
     fn by_pieces<H: Piecewise>(limit: u64, r: &mut R) -> Result<u64, Unhashed> {
-        hash_of_pieces::<H, R, PIECE>(limit, r)
+        let hasher = fed::<H, R, PIECE>(limit, r)?;
+        Ok(hasher.answer())
     }
 
     ghost by_same = { λ hash of_read same agree limit r s.

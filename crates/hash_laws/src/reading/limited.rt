@@ -1,6 +1,5 @@
 //! The hash of all that a reader gives, if that is less than a limit.
-ghost use Rattle.std.specs.Prelude.{◌<◌, ◌≤◌, fold};
-ghost use Rattle.hash_laws.specs.Reading.{cut};
+ghost use Rattle.std.specs.Prelude.{◌<◌, ◌≤◌};
 ghost use Rattle.hash_laws.specs.Limited.{Feeds, Hashes, read};
 
 use crate::reading::reader::{Fault, hash_reader};
@@ -37,20 +36,6 @@ pub fn fed<H: Piecewise, R: Read, const N: usize>(limit: u64, r: &mut R) -> Resu
     }
 }
 
-/// The hash of what is read, as of pieces of `N` bytes.
-pub fn hash_of_pieces<H: Piecewise, R: Read, const N: usize>(
-    limit: u64,
-    r: &mut R,
-) -> Result<u64, Unhashed>
-    requires not_empty { 0 < N }
-    requires small { N ≤ 65536 }
-    ensures { Hashes (λ text. H.answer (fold H.after H.fresh (cut N text)))
-        (read limit R.remaining r.old r.new) result }
-{
-    let hasher = fed::<H, R, N>(limit, r)?;
-    Ok(hasher.answer())
-}
-
 /// The hash of what is read, as of one text.
 pub fn hash_of_text<H: Streamed, R: Read, const N: usize>(
     limit: u64,
@@ -60,5 +45,6 @@ pub fn hash_of_text<H: Streamed, R: Read, const N: usize>(
     requires small { N ≤ 65536 }
     ensures { Hashes H.hash_of (read limit R.remaining r.old r.new) result }
 {
-    hash_of_pieces::<H, R, N>(limit, r)
+    let hasher = fed::<H, R, N>(limit, r)?;
+    Ok(hasher.answer())
 }

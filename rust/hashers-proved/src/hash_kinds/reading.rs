@@ -7,7 +7,7 @@ use crate::{hash_laws, hash_names, std};
 use crate::hash_kinds::table::{Kind, by_kind};
 use crate::hash_kinds::wide::WideHash;
 #[cfg(feature = "std")]
-use hash_laws::reading::limited::{fed, hash_of_pieces, hash_of_text};
+use hash_laws::reading::limited::{fed, hash_of_text};
 use hash_laws::traits::{Piecewise, Streamed};
 #[cfg(feature = "std")]
 pub use hash_names::reading::{PIECE, Unhashed};
@@ -61,7 +61,8 @@ impl<R: Read> HashTask for HashRead<R> {
 
     #[inline]
     fn by_pieces<H: Piecewise>(limit: u64, r: &mut R) -> Result<u64, Unhashed> {
-        hash_of_pieces::<H, R, PIECE>(limit, r)
+        let hasher = fed::<H, R, PIECE>(limit, r)?;
+        Ok(hasher.answer())
     }
 }
 

@@ -9,7 +9,7 @@ use crate::hash_names::task::HashTask;
 #[cfg(feature = "std")]
 pub use hash_laws::reading::limited::Unhashed;
 #[cfg(feature = "std")]
-use hash_laws::reading::limited::{hash_of_pieces, hash_of_text};
+use hash_laws::reading::limited::{fed, hash_of_text};
 use hash_laws::traits::{Piecewise, Streamed};
 use std::io::Read;
 use std::marker::PhantomData;
@@ -36,7 +36,8 @@ impl<R: Read> HashTask for HashRead<R> {
 
     #[inline]
     fn by_pieces<H: Piecewise>(limit: u64, r: &mut R) -> Result<u64, Unhashed> {
-        hash_of_pieces::<H, R, PIECE>(limit, r)
+        let hasher = fed::<H, R, PIECE>(limit, r)?;
+        Ok(hasher.answer())
     }
 }
 

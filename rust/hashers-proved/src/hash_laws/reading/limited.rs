@@ -50,31 +50,6 @@ pub fn fed<H: Piecewise, R: Read, const N: usize>(limit: u64, r: &mut R) -> Resu
     }
 }
 
-/// The hash of what is read, as of pieces of `N` bytes.
-///
-/// The caller has to see to it that:
-///
-/// ```text
-/// not_empty: 0 < N
-/// small: N ≤ 65536
-/// ```
-///
-/// Proved:
-///
-/// ```text
-/// Hashes (λ text. H.answer (fold H.after H.fresh (cut N text)))
-///     (read limit R.remaining r.old r.new) result
-/// ```
-#[inline]
-pub fn hash_of_pieces<H: Piecewise, R: Read, const N: usize>(
-    limit: u64,
-    r: &mut R,
-) -> Result<u64, Unhashed> {
-    const { assert!(0 < N) };
-    let hasher = fed::<H, R, N>(limit, r)?;
-    Ok(hasher.answer())
-}
-
 /// The hash of what is read, as of one text.
 ///
 /// The caller has to see to it that:
@@ -95,5 +70,6 @@ pub fn hash_of_text<H: Streamed, R: Read, const N: usize>(
     r: &mut R,
 ) -> Result<u64, Unhashed> {
     const { assert!(0 < N) };
-    hash_of_pieces::<H, R, N>(limit, r)
+    let hasher = fed::<H, R, N>(limit, r)?;
+    Ok(hasher.answer())
 }
