@@ -2,7 +2,10 @@
 use Rattle.hash_jenkins.proofs.Common.{◌≡◌, ◌+◌, ◌-◌, ◌*◌, ◌%◌, ◌^◌, ◌<◌, ◌∷◌, ◌++◌, ◌∙◌, ℕ, nat_lt, true, List, [], length, replicate, fold, slice_index, refl, sym, ap, arith, nat_tests, common_steps, zero_filled, add_chunk, pieces, le_words}
 use Rattle.std.proofs.Common.{lit<, get_or, length-set, get_or-set_same}
 use Rattle.hash_words.specs.Words.{add_at}
-use Rattle.hash_rounds.proofs.RoundLemmas.{AreFourWords, words-listed, no_data, short_mix-steps, short_end-steps, stepped-AreFourWords, stepped-same}
+use Rattle.hash_rounds.proofs.RoundLemmas.{AreFourWords, words-listed, short_mix-steps, short_end-steps, stepped-AreFourWords}
+use Rattle.hash_rounds.proofs.StepLemmas.{of_steps}
+use Rattle.hash_words.proofs.UndoLemmas.{told}
+use Rattle.hash_words.proofs.WordLemmas.{no_words}
 use Rattle.hash_jenkins.specs.Spooky.{short_start, spooky_v1}
 unfoldable use Rattle.hash_jenkins.specs.Spooky.{chunks_from}
 use Rattle.hash_jenkins.specs.Zeros.{AddsZeros, HaveOtherWords}
@@ -62,7 +65,7 @@ other_words x y h = λ seed1 seed2 s1 s2 same.
     let w = short_start-AreFourWords seed1 seed2 x s1 s2 in
     let more = start-same x y h seed1 seed2 in
     let one : add_at s 3 (length x * 2 ^ 56) ≡ add_at s 3 (length y * 2 ^ 56) =
-    stepped-same 64 4 0 [] (no_data 64) rounds.short_end_steps short_end-steps _ _ (add_at-AreFourWords s 3 _ w)
+    told (of_steps 64 4 0 [] (no_words 64) rounds.short_end_steps short_end-steps) _ _ (add_at-AreFourWords s 3 _ w)
     (add_at-AreFourWords s 3 _ w) (rw more at same) in
     let fits : 3 < length s = omega (arith, w.0) in
     let word = rw (get_or-set_same, get_or-set_same) at (ap (λ (k : List ℕ). get_or k 3 0) one) in

@@ -1,8 +1,8 @@
 -- Laws of the rounds: their lists are well formed, they keep words, and different words stay different.
-use Rattle.hash_rounds.proofs.Common.{◌≡◌, ℕ, ◌^◌, ◌<◌, List, [], length, refl, AllByRecursion, All-from_recursion, Step, AreSteps, apply, undo, told, AreWords-at, no_words}
+use Rattle.hash_rounds.proofs.Common.{◌≡◌, ℕ, ◌^◌, ◌<◌, List, [], length, refl, AllByRecursion, All-from_recursion, Step, AreSteps, apply, AreWords-at}
 use Rattle.hash_rounds.specs.Rounds as rounds
 pub use Rattle.hash_rounds.proofs.StepLemmas.{AreNWords}
-use Rattle.hash_rounds.proofs.StepLemmas.{steps-in, of_steps}
+use Rattle.hash_rounds.proofs.StepLemmas.{steps-in}
 
 pub spooky_mix-steps : AreSteps 64 12 12 rounds.spooky_mix_steps
 unfolding rounds.spooky_mix_steps
@@ -38,17 +38,3 @@ stepped = steps-in
 pub stepped-AreFourWords : (h : List ℕ) → AreFourWords h → (steps : List Step) → AreSteps 64 4 0 steps
     → AreFourWords (apply 64 steps [] h)
 stepped-AreFourWords h h_in steps are = stepped 64 4 0 [] steps are h h_in
-
-pub no_data : (w : ℕ) → AreNWords w 0 []
-no_data w = (refl, no_words w)
-
--- steps on n words with m words of data
-module _ (w n m : ℕ) (d : List ℕ) (d_in : AreNWords w m d) (ts : List Step) (are : AreSteps w n m ts) where
-  -- different words stay different
-  pub stepped-same : (s t : List ℕ) → AreNWords w n s → AreNWords w n t → apply w ts d s ≡ apply w ts d t → s ≡ t
-  stepped-same = told (of_steps w n m d d_in.1 ts are)
-
-  -- each words are led to by others
-  pub stepped-back : (s : List ℕ) → AreNWords w n s
-      → AreNWords w n (apply w (undo w ts) d s) × (apply w ts d (apply w (undo w ts) d s) ≡ s)
-  stepped-back s s_in = let u = of_steps w n m d d_in.1 ts are in (u.back_in s s_in, u.there s s_in)

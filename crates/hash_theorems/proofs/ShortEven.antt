@@ -1,28 +1,10 @@
 -- The one stretch that leads SpookyHash below 192 bytes to four words, and how many lead to a hash.
-use Rattle.hash_theorems.proofs.JenkinsCommon.{◌≡◌, ◌+◌, ◌-◌, ◌*◌, ◌/◌, ◌%◌, ◌^◌, ◌<◌, ◌∷◌, ◌++◌, ◌∙◌, ℕ, nat_lt, true, List, [], length, slice_index, take, replicate, refl, sym, ap, arith, w64, length-append, ap₂, nat_tests, append_assoc, drop-replicate, mod_below, pow_pos, IsPiece, le-to_le_bytes-64, short_mix, AreFourWords, words-listed, short_end-steps, stepped, ExactlyTexts, IsText, zero_filled, first_two, short_words, spooky, apply, chunks_from, missing, stretch_of}
+use Rattle.hash_theorems.proofs.JenkinsCommon.{◌≡◌, ◌+◌, ◌-◌, ◌*◌, ◌/◌, ◌%◌, ◌^◌, ◌<◌, ◌∷◌, ◌++◌, ◌∙◌, ℕ, nat_lt, true, List, [], length, slice_index, take, replicate, refl, sym, ap, ap₂, arith, length-append, nat_tests, append_assoc, drop-replicate, mod_below, pow_pos, IsPiece, Undoes, ◌▷◌, likewise, told, solved, short_mix, AreFourWords, words-listed, short_end-steps, stepped, ExactlyTexts, IsText, zero_filled, first_two, short_words, spooky, chunks_from, missing, stretch_of}
 use Rattle.hash_words.specs.Put.{put_at}
 use Rattle.hash_rounds.specs.Rounds as rounds
 use Rattle.hash_jenkins.proofs.FilledLemmas.{filled-piece, take-zero_filled}
-use Rattle.hash_theorems.proofs.ShortStretches.{ended, ended-same, ended-led, add_stretch, add_stretch-in, add_stretch-piece, chunks-are, mixed-in, none, none-added, pieces-append, pieces-one, pieces-then, seeded, seeded-in, four, short_start-is, stretches, stretches-in, stretches-led, stretches-same, unmix, unmixed}
-use Rattle.hash_theorems.proofs.Sums.{bytes_of-text, sums_4, exchanged_4, difference-added, missing-is}
+use Rattle.hash_theorems.proofs.ShortStretches.{ended, of_ended, add_stretch, of_mix, of_stretch, of_stretches, chunks-are, none, none-added, pieces-append, pieces-one, pieces-then, seeded, seeded-in, short_start-is, stretches, stretches-in, unmix}
 use Rattle.hash_jenkins.proofs.ZeroLemmas.{add_at-AreFourWords, short_start-AreFourWords, start_of, start-AreFourWords}
-
--- ---- four words as a stretch
-
-stretch_of-four : (a b c d : ℕ) → a < 2 ^ 64 → b < 2 ^ 64 → c < 2 ^ 64 → d < 2 ^ 64
-    → four (stretch_of (a ∷ b ∷ c ∷ d ∷ [])) ≡ a ∷ b ∷ c ∷ d ∷ []
-stretch_of-four a b c d a_in b_in c_in d_in =
-    λ i. le-to_le_bytes-64 a a_in i ∷ le-to_le_bytes-64 b b_in i ∷ le-to_le_bytes-64 c c_in i ∷ le-to_le_bytes-64 d d_in i ∷ []
-
-below : (n : ℕ) → n % 2 ^ 64 < 2 ^ 64
-below n = mod_below n (2 ^ 64) (pow_pos 64)
-
-missing-added : (h to : List ℕ) → AreFourWords h → AreFourWords to → add_stretch h (stretch_of (missing (short_mix h) to)) ≡ to
-missing-added h to h_in to_in =
-    let m = short_mix h in
-    ap (λ (d : List ℕ). apply 64 sums_4 d m)
-    (stretch_of-four _ _ _ _ (below _) (below _) (below _) (below _) ∙ sym (missing-is m to to_in.0))
-    ∙ difference-added 64 4 sums_4 refl exchanged_4 m (mixed-in h h_in) to to_in
 
 -- ---- a stretch between a front and a back
 
@@ -63,31 +45,22 @@ module _ (seed1 seed2 : ℕ) (front back : List ℕ) (s1 : seed1 < 2 ^ 64) (s2 :
   -- where four words lead to the end, what is missing to them is the stretch
   leads : (to words : List ℕ) → AreFourWords to → led to ≡ words
       → short_words seed1 seed2 (text_of (stretch_of (missing (short_mix from) to))) ≡ words
-  leads to words to_in is = words-are (stretch_of (missing (short_mix from) to)) refl ∙ ap led (missing-added from to from-in to_in) ∙ is
+  leads to words to_in is =
+      words-are (stretch_of (missing (short_mix from) to)) refl ∙ ap led ((of_stretch from from-in).there to to_in) ∙ is
 
-  module _ (back_text : IsText back) where
-    behind-text : IsText behind
-    behind-text = (filled-piece (176 - length front) back back_text (omega arith)).0
+  -- the stretch, and the words of the text
+  framed : IsText back → (g : List ℕ → List ℕ) × Undoes (IsPiece 32) AreFourWords (λ stretch. short_words seed1 seed2 (text_of stretch)) g
+  framed back_text =
+      let behind-text = (filled-piece (176 - length front) back back_text (omega arith)).0 in (
+        _,
+        likewise (λ stretch is. words-are stretch is.1) (λ _ _. refl)
+            (of_stretch from from-in ▷ of_stretches behind behind-text ▷ of_ended (length front + 32 + length back) (omega arith)),
+      )
 
-    -- no other stretch leads there
-    pub alone : (x y : List ℕ) → IsPiece 32 x → IsPiece 32 y
-        → short_words seed1 seed2 (text_of x) ≡ short_words seed1 seed2 (text_of y) → x ≡ y
-    alone x y x_is y_is same =
-        let one = add_stretch-in from x from-in in
-        let other = add_stretch-in from y from-in in
-        add_stretch-piece from x y from-in x_is y_is (stretches-same _ _ behind one other behind-text
-        (ended-same (length front + 32 + length back) (omega arith) _ _ (stretches-in _ behind one) (stretches-in _ behind other)
-        (sym (words-are x x_is.1) ∙ same ∙ words-are y y_is.1)))
-
-    -- each four words have a stretch
-    some_stretch : (words : List ℕ) → AreFourWords words
-        → (stretch : List ℕ) × IsPiece 32 stretch × (short_words seed1 seed2 (text_of stretch) ≡ words)
-    some_stretch words words_in =
-        let n = length front + 32 + length back in
-        let end = ended-led n (omega arith) words words_in in
-        let to = stretches-led behind end.0 behind-text end.1 in
-        let d = missing (short_mix from) to.0 in
-        (stretch_of d, (bytes_of-text w64 d, refl), leads to.0 words to.1 (ap (ended n) to.2 ∙ end.2))
+  -- no other stretch leads there
+  pub alone : IsText back → (x y : List ℕ) → IsPiece 32 x → IsPiece 32 y
+      → short_words seed1 seed2 (text_of x) ≡ short_words seed1 seed2 (text_of y) → x ≡ y
+  alone back_text = told (framed back_text).1
 
   -- ---- what a call finds
 
@@ -106,7 +79,6 @@ module _ (seed1 seed2 : ℕ) (front back : List ℕ) (s1 : seed1 < 2 ^ 64) (s2 :
       → chunks_from to (take (176 - length front) (put_at 16 back (replicate 192 0))) ≡ stretches to behind
   to-is to to_in =
       let n = 176 - length front in
-      let before = unmixed to to_in in
       let size = length-append none back in
       let all : 192 - (16 + length back) ≡ 192 - length (none ++ back) = omega (arith, size) in
       let count : n + 16 - length (none ++ back) ≡ n - length back = omega (arith, size) in
@@ -116,7 +88,7 @@ module _ (seed1 seed2 : ℕ) (front back : List ℕ) (s1 : seed1 < 2 ^ 64) (s2 :
       ∙ chunks-are to to_in n (none ++ back) (omega arith) (omega (arith, size))
       ∙ ap (λ k. stretches (unmix to) ((none ++ none) ++ (back ++ replicate k 0))) count
       ∙ pieces-then add_stretch (unmix to) (none ++ none) behind refl
-      ∙ ap (λ (k : List ℕ). stretches k behind) (none-added (unmix to) before.0 ∙ before.1)
+      ∙ ap (λ (k : List ℕ). stretches k behind) (none-added (unmix to) (of_mix.back_in to to_in) ∙ of_mix.there to to_in)
 
   pub found : (got end to words : List ℕ) → got ≡ chunks_from (start_of seed1 seed2) (take (length front + 16) (zero_filled 192 front))
       → ended (length front + 32 + length back) end ≡ words
@@ -139,9 +111,11 @@ module _ (seed1 seed2 : ℕ) (front back : List ℕ) (s1 : seed1 < 2 ^ 64) (s2 :
     abbrev wanted : ℕ → List ℕ
     wanted i = hash.0 ∷ hash.1 ∷ i % 2 ^ 64 ∷ i / 2 ^ 64 % 2 ^ 64 ∷ []
 
-    -- a stretch for these words
-    one : (i : ℕ) → (stretch : List ℕ) × IsPiece 32 stretch × (short_words seed1 seed2 (text_of stretch) ≡ wanted i)
-    one i = some_stretch back_text (wanted i) (words-listed 64 (wanted i) (first_in, (second_in, (below i, (below (i / 2 ^ 64), tt)))))
+    below : (n : ℕ) → n % 2 ^ 64 < 2 ^ 64
+    below n = mod_below n (2 ^ 64) (pow_pos 64)
+
+    wanted_in : (i : ℕ) → AreFourWords (wanted i)
+    wanted_in i = words-listed 64 (wanted i) (first_in, (second_in, (below i, (below (i / 2 ^ 64), tt))))
 
     -- the third word and the fourth as one number
     abbrev left_out : List ℕ → ℕ
@@ -172,14 +146,18 @@ module _ (seed1 seed2 : ℕ) (front back : List ℕ) (s1 : seed1 < 2 ^ 64) (s2 :
     wanted-are words words_in is = absurd (omega (arith, words_in.0))
 
     pub stretches-even : ExactlyTexts (2 ^ 128) 32 (λ stretch. spooky seed1 seed2 (text_of stretch) ≡ hash)
-    stretches-even = record {
-      value = λ i. (one i).0;
-      number = λ stretch. left_out (short_words seed1 seed2 (text_of stretch));
-      value_has = λ i i_in. ((one i).1.0, (one i).1.1, spooky-is (one i).0 (one i).1.1 ∙ ap first_two (one i).2);
-      number_below = λ stretch known. left_out-lt _ (words-in stretch);
-      number_of_value = λ i i_in. ap left_out (one i).2 ∙ joined i i_in;
-      value_of_number = λ stretch known.
-          let i = left_out (short_words seed1 seed2 (text_of stretch)) in
-          alone back_text (one i).0 stretch (one i).1 (known.0, known.1)
-          ((one i).2 ∙ wanted-are _ (words-in stretch) (sym (spooky-is stretch known.1) ∙ known.2));
-    }
+    stretches-even =
+        let by = framed back_text in
+        let there = λ (i : ℕ). by.1.there (wanted i) (wanted_in i) in
+        record {
+          value = λ i. by.0 (wanted i);
+          number = λ stretch. left_out (short_words seed1 seed2 (text_of stretch));
+          value_has = λ i i_in.
+              let is = by.1.back_in (wanted i) (wanted_in i) in
+              (is.0, is.1, spooky-is (by.0 (wanted i)) is.1 ∙ ap first_two (there i));
+          number_below = λ stretch known. left_out-lt _ (words-in stretch);
+          number_of_value = λ i i_in. ap left_out (there i) ∙ joined i i_in;
+          value_of_number = λ stretch known.
+              sym (solved by.1 stretch _ (known.0, known.1)
+              (sym (wanted-are _ (words-in stretch) (sym (spooky-is stretch known.1) ∙ known.2))));
+        }

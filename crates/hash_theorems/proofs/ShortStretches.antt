@@ -1,10 +1,10 @@
 -- A text below 192 bytes by its stretches, the 32 bytes each that are added between two mixes: no two texts that differ only in
 -- one have the same four words.
-use Rattle.hash_theorems.proofs.JenkinsCommon.{◌≡◌, ◌≢◌, ◌%◌, ◌*◌, ◌++◌, ◌+◌, ◌-◌, ◌/◌, ◌<◌, ◌^◌, ◌∙◌, ◌∷◌, ◌≤◌, All, List, [], ap, arith, drop, fold, length, length-append, lit<, map, refl, replicate, slice_index, slice_set, suc, sym, take, zero, ℕ, ap₂, fold-append, append_assoc, append_cancel_left, drop_all, length-drop, length-take-le, nil_from_length, take-append-drop, take_all, All-append, All-head, All-replicate, All-tail, first_chunks, add_at, sub, IsPiece, all_words-same, first_chunks-pieces, fold-same, part-same, texts-same, short_end, short_mix, AddData, AreFourWords, AreNWords, no_data, short_end-steps, short_mix-steps, stepped, stepped-back, stepped-same, words-listed, IsText, IsByte, DifferInOne, zero_filled, add_chunk, short_start, short_words, short_words_v1, le, le_words, pieces, apply, undo, chunks_from}
+use Rattle.hash_theorems.proofs.JenkinsCommon.{◌≡◌, ◌≢◌, ◌%◌, ◌*◌, ◌++◌, ◌+◌, ◌-◌, ◌/◌, ◌<◌, ◌^◌, ◌∙◌, ◌∷◌, ◌≤◌, All, List, [], ap, arith, drop, fold, length, length-append, lit<, map, refl, replicate, slice_index, slice_set, suc, sym, take, zero, ℕ, ap₂, fold-append, append_assoc, append_cancel_left, drop_all, length-drop, length-take-le, nil_from_length, take-append-drop, take_all, All-append, All-replicate, first_chunks, to_le_bytes, w64, add_at, sub, reverse, no_words, IsPiece, first_chunks-pieces, part-same, texts-same, of_eight_bytes, Undoes, ◌▷◌, folded, told, of_steps, short_end, short_mix, AddData, AreFourWords, short_end-steps, short_mix-steps, stepped, words-listed, IsText, IsByte, DifferInOne, zero_filled, add_chunk, short_start, short_words, short_words_v1, le, le_words, pieces, apply, undo, chunks_from, missing, stretch_of}
 use Rattle.hash_words.proofs.Chunks.{first_chunks-append}
 use Rattle.hash_rounds.specs.Rounds as rounds
 use Rattle.hash_jenkins.proofs.FilledLemmas.{agree_between, filled-piece, filled-same, length-zero_filled, zero_filled-longer}
-use Rattle.hash_theorems.proofs.Sums.{add-nothing, exchanged_4, sum-same, sums_4, words-in}
+use Rattle.hash_theorems.proofs.Sums.{add-nothing, of_sums_4, of_words, sums_4}
 use Rattle.hash_jenkins.proofs.ZeroLemmas.{add_at-AreFourWords, fold-AreFourWords, short_start-AreFourWords, start-AreFourWords, start_of}
 
 -- ---- a stretch behind a mix
@@ -16,38 +16,27 @@ four c = map le (first_chunks 8 4 c)
 abbrev pub add_stretch : List ℕ → List ℕ → List ℕ
 add_stretch h c = apply 64 sums_4 (four c) (short_mix h)
 
-pub mixed-in : (h : List ℕ) → AreFourWords h → AreFourWords (short_mix h)
-mixed-in h h_in = stepped 64 4 0 [] rounds.short_mix_steps short_mix-steps h h_in
-
-pub add_stretch-in : (h c : List ℕ) → AreFourWords h → AreFourWords (add_stretch h c)
-add_stretch-in h c h_in = stepped 64 4 4 (four c) sums_4 refl (short_mix h) (mixed-in h h_in)
-
-pub add_stretch-state : (h k c : List ℕ) → AreFourWords h → AreFourWords k → IsPiece 32 c → add_stretch h c ≡ add_stretch k c → h ≡ k
-add_stretch-state h k c h_in k_in is same =
-    stepped-same 64 4 0 [] (no_data 64) rounds.short_mix_steps short_mix-steps h k h_in k_in
-    (stepped-same 64 4 4 (four c) (words-in 64 8 4 refl c is) sums_4 refl _ _ (mixed-in h h_in) (mixed-in k k_in) same)
-
-pub add_stretch-piece : (h c e : List ℕ) → AreFourWords h → IsPiece 32 c → IsPiece 32 e → add_stretch h c ≡ add_stretch h e → c ≡ e
-add_stretch-piece h c e h_in c_is e_is same =
-    all_words-same 8 4 c e c_is e_is (sum-same 64 4 sums_4 refl exchanged_4 (short_mix h) (mixed-in h h_in) (four c) (four e)
-    (words-in 64 8 4 refl c c_is) (words-in 64 8 4 refl e e_is) same)
+pub of_four : Undoes (IsPiece 32) AreFourWords four stretch_of
+of_four = of_words 8 64 (to_le_bytes w64) of_eight_bytes 4
 
 -- four words before a mix that gives these
 abbrev pub unmix : List ℕ → List ℕ
 unmix h = apply 64 (undo 64 rounds.short_mix_steps) [] h
 
-pub unmixed : (h : List ℕ) → AreFourWords h → AreFourWords (unmix h) × (short_mix (unmix h) ≡ h)
-unmixed = stepped-back 64 4 0 [] (no_data 64) rounds.short_mix_steps short_mix-steps
+pub of_mix : Undoes AreFourWords AreFourWords short_mix unmix
+of_mix = of_steps 64 4 0 [] (no_words 64) rounds.short_mix_steps short_mix-steps
 
--- four words that are led to by some
-abbrev pub Led : (List ℕ → List ℕ) → List ℕ → Type 0
-Led step h = (x : List ℕ) × AreFourWords x × (step x ≡ h)
+-- the words before it are undone by the stretch, and the stretch by the words before it
+of_state : (c : List ℕ) → IsPiece 32 c
+    → Undoes AreFourWords AreFourWords (λ h. add_stretch h c) (λ t. unmix (apply 64 (undo 64 sums_4) (four c) t))
+of_state c is = of_mix ▷ of_steps 64 4 4 (four c) (of_four.there_in c is).1 sums_4 refl
 
-add_stretch-led : (c h : List ℕ) → IsPiece 32 c → AreFourWords h → Led (λ k. add_stretch k c) h
-add_stretch-led c h is h_in =
-    let sum = stepped-back 64 4 4 (four c) (words-in 64 8 4 refl c is) sums_4 refl h h_in in
-    let mixed = unmixed _ sum.0 in
-    (_, mixed.0, ap (apply 64 sums_4 (four c)) mixed.1 ∙ sum.1)
+pub of_stretch : (h : List ℕ) → AreFourWords h
+    → Undoes (IsPiece 32) AreFourWords (add_stretch h) (λ t. stretch_of (missing (short_mix h) t))
+of_stretch h h_in = of_four ▷ of_sums_4 (short_mix h) (of_mix.there_in h h_in)
+
+add_stretch-in : (h c : List ℕ) → AreFourWords h → AreFourWords (add_stretch h c)
+add_stretch-in h c h_in = stepped 64 4 4 (four c) sums_4 refl (short_mix h) (of_mix.there_in h h_in)
 
 -- ---- pieces of joined texts
 
@@ -77,20 +66,9 @@ all_pieces text is_text = first_chunks-pieces 32 (length text / 32) text is_text
 pub stretches-in : (h text : List ℕ) → AreFourWords h → AreFourWords (stretches h text)
 stretches-in h text h_in = fold-AreFourWords add_stretch add_stretch-in (pieces 32 text) h h_in
 
-pub stretches-same : (h k text : List ℕ) → AreFourWords h → AreFourWords k → IsText text → stretches h text ≡ stretches k text → h ≡ k
-stretches-same h k text h_in k_in is_text same =
-    fold-same AreFourWords (IsPiece 32) add_stretch (λ s c s_in _. add_stretch-in s c s_in) add_stretch-state
-    (pieces 32 text) h k h_in k_in (all_pieces text is_text) same
-
-each-led : (cs : List (List ℕ)) (h : List ℕ) → All (IsPiece 32) cs → AreFourWords h → Led (λ k. fold add_stretch k cs) h
-each-led [] h are h_in = (h, h_in, refl)
-each-led (c ∷ cs) h are h_in =
-    let rest = each-led cs h (All-tail (IsPiece 32) c cs are) h_in in
-    let here = add_stretch-led c rest.0 (All-head (IsPiece 32) c cs are) rest.1 in
-    (here.0, here.1, ap (λ k. fold add_stretch k cs) here.2 ∙ rest.2)
-
-pub stretches-led : (text h : List ℕ) → IsText text → AreFourWords h → Led (λ k. stretches k text) h
-stretches-led text h is_text h_in = each-led (pieces 32 text) h (all_pieces text is_text) h_in
+pub of_stretches : (text : List ℕ) → IsText text → Undoes AreFourWords AreFourWords (λ h. stretches h text)
+    (λ t. fold (λ h c. unmix (apply 64 (undo 64 sums_4) (four c) h)) t (reverse (pieces 32 text)))
+of_stretches text is_text = folded of_state (pieces 32 text) (all_pieces text is_text)
 
 -- ---- chunks by stretches
 
@@ -124,7 +102,7 @@ add_stretch-halves h p a p_len = ap (λ (d : List ℕ). apply 64 sums_4 d (short
 
 pub none-added : (h : List ℕ) → AreFourWords h → add_stretch h (none ++ none) ≡ short_mix h
 none-added h h_in =
-    let adds = none-adds (short_mix h) (mixed-in h h_in) in
+    let adds = none-adds (short_mix h) (of_mix.there_in h h_in) in
     add_stretch-halves h none none refl ∙ ap (λ (k : List ℕ). add_last k none) adds.0 ∙ adds.1
 
 abbrev pub f : List ℕ → List ℕ → List ℕ
@@ -135,7 +113,7 @@ by_stretches : (k : ℕ) (u p text : List ℕ) → AreFourWords u → length p �
     → stretches u (p ++ (text ++ none)) ≡ fold f (add_first (short_mix u) p) (pieces 32 text)
 unfolding pieces
 by_stretches zero u p text u_in p_len len =
-    let added_in = add_at-AreFourWords _ 1 (le (take 8 (drop 8 p))) (add_at-AreFourWords _ 0 (le (take 8 p)) (mixed-in u u_in)) in
+    let added_in = add_at-AreFourWords _ 1 (le (take 8 (drop 8 p))) (add_at-AreFourWords _ 0 (le (take 8 p)) (of_mix.there_in u u_in)) in
     rw (nil_from_length text (omega arith)) (pieces-one add_stretch u (p ++ none) (omega (arith, length-append p none))
     ∙ add_stretch-halves u p none p_len ∙ (none-adds _ added_in).1)
 by_stretches (suc k) u p text u_in p_len len =
@@ -163,18 +141,17 @@ pub chunks-are : (h : List ℕ) → AreFourWords h → (n : ℕ) (text : List �
     → chunks_from h (zero_filled n text) ≡ stretches (unmix h) (none ++ zero_filled (n + 16) text)
 unfolding chunks_from
 chunks-are h h_in n text whole fits =
-    let before = unmixed h h_in in
     sym (ap (λ (t : List ℕ). stretches (unmix h) (none ++ t)) (zero_filled-longer n 16 text fits)
-    ∙ by_stretches (n / 32) (unmix h) none (zero_filled n text) before.0 refl (omega (arith, length-zero_filled n text fits))
+    ∙ by_stretches (n / 32) (unmix h) none (zero_filled n text) (of_mix.back_in h h_in) refl (omega (arith, length-zero_filled n text fits))
     ∙ ap (λ (s : List ℕ). fold f s (pieces 32 (zero_filled n text)))
-    (ap (λ (s : List ℕ). add_first s none) before.1 ∙ (none-adds h h_in).0))
+    (ap (λ (s : List ℕ). add_first s none) (of_mix.there h h_in) ∙ (none-adds h h_in).0))
 
 -- what leads to the start from two seeds by a mix
 abbrev pub seeded : ℕ → ℕ → List ℕ
 seeded seed1 seed2 = unmix (start_of seed1 seed2)
 
 pub seeded-in : (seed1 seed2 : ℕ) → seed1 < 2 ^ 64 → seed2 < 2 ^ 64 → AreFourWords (seeded seed1 seed2)
-seeded-in seed1 seed2 s1 s2 = (unmixed (start_of seed1 seed2) (start-AreFourWords seed1 seed2 s1 s2)).0
+seeded-in seed1 seed2 s1 s2 = of_mix.back_in (start_of seed1 seed2) (start-AreFourWords seed1 seed2 s1 s2)
 
 pub short_start-is : (seed1 seed2 : ℕ) (text : List ℕ) → seed1 < 2 ^ 64 → seed2 < 2 ^ 64 → length text ≤ 192
     → short_start seed1 seed2 text ≡ stretches (seeded seed1 seed2) (none ++ zero_filled 208 text)
@@ -186,31 +163,25 @@ short_start-is seed1 seed2 text s1 s2 few =
 abbrev pub ended : ℕ → List ℕ → List ℕ
 ended n h = short_end (add_at h 3 (n * 2 ^ 56))
 
+abbrev pub unend : List ℕ → List ℕ
+unend = apply 64 (undo 64 rounds.short_end_steps) []
+
+pub of_end : Undoes AreFourWords AreFourWords short_end unend
+of_end = of_steps 64 4 0 [] (no_words 64) rounds.short_end_steps short_end-steps
+
 module _ (n : ℕ) (few : n < 192) where
-  length-in : AreNWords 64 1 (n * 2 ^ 56 ∷ [])
-  length-in = words-listed 64 (n * 2 ^ 56 ∷ []) (omega arith, tt)
-
-  pub ended-same : (h k : List ℕ) → AreFourWords h → AreFourWords k → ended n h ≡ ended n k → h ≡ k
+  of_length : Undoes AreFourWords AreFourWords (λ h. add_at h 3 (n * 2 ^ 56)) (apply 64 (undo 64 (AddData 3 0 ∷ [])) (n * 2 ^ 56 ∷ []))
   unfolding apply
-  ended-same h k h_in k_in same =
-      stepped-same 64 4 1 (n * 2 ^ 56 ∷ []) length-in (AddData 3 0 ∷ []) refl h k h_in k_in
-      (stepped-same 64 4 0 [] (no_data 64) rounds.short_end_steps short_end-steps _ _ (add_at-AreFourWords h 3 (n * 2 ^ 56) h_in)
-      (add_at-AreFourWords k 3 (n * 2 ^ 56) k_in) same)
+  of_length = of_steps 64 4 1 (n * 2 ^ 56 ∷ []) (words-listed 64 (n * 2 ^ 56 ∷ []) (omega arith, tt)).1 (AddData 3 0 ∷ []) refl
 
-  pub ended-led : (words : List ℕ) → AreFourWords words → Led (ended n) words
-  unfolding apply
-  ended-led words words_in =
-      let end = stepped-back 64 4 0 [] (no_data 64) rounds.short_end_steps short_end-steps words words_in in
-      let long = stepped-back 64 4 1 (n * 2 ^ 56 ∷ []) length-in (AddData 3 0 ∷ []) refl _ end.0 in
-      (_, long.0, ap short_end long.1 ∙ end.1)
+  pub of_ended : Undoes AreFourWords AreFourWords (ended n) (λ t. apply 64 (undo 64 (AddData 3 0 ∷ [])) (n * 2 ^ 56 ∷ []) (unend t))
+  of_ended = of_length ▷ of_end
 
   -- the length taken off and added
   pub length-back : (h : List ℕ) → AreFourWords h
       → add_at (slice_set h 3 (sub 64 (slice_index h 3) (n * 2 ^ 56 % 2 ^ 64))) 3 (n * 2 ^ 56) ≡ h
   unfolding apply undo
-  length-back h h_in =
-      let long : n * 2 ^ 56 % 2 ^ 64 ≡ n * 2 ^ 56 = omega arith in
-      rw long (stepped-back 64 4 1 (n * 2 ^ 56 ∷ []) length-in (AddData 3 0 ∷ []) refl h h_in).1
+  length-back h h_in = let long : n * 2 ^ 56 % 2 ^ 64 ≡ n * 2 ^ 56 = omega arith in rw long (of_length.there h h_in)
 
 -- ---- texts that differ in one stretch
 
@@ -245,8 +216,9 @@ module _ (seed1 seed2 : ℕ) (x y : List ℕ) (s1 : seed1 < 2 ^ 64) (s2 : seed2 
       let led : stretches u (seven x) ≡ stretches u (seven y) =
       sym (short_start-is seed1 seed2 x s1 s2 (omega arith)) ∙ same
       ∙ short_start-is seed1 seed2 y s1 s2 (omega (arith, differ.same_length)) in
-      let whole = texts-same AreFourWords (IsPiece 32) add_stretch (λ s c s_in _. add_stretch-in s c s_in) add_stretch-state
-      (λ _ _. Unit {0}) (λ s c e s_in c_is e_is _. add_stretch-piece s c e s_in c_is e_is) 32 (λ s (r : List ℕ). (s, r)) (λ c is. is)
+      let whole = texts-same AreFourWords (IsPiece 32) add_stretch (λ s c s_in _. add_stretch-in s c s_in)
+      (λ s t c s_in t_in is. told (of_state c is) s t s_in t_in)
+      (λ _ _. Unit {0}) (λ s c e s_in c_is e_is _. told (of_stretch s s_in) c e c_is e_is) 32 (λ s (r : List ℕ). (s, r)) (λ c is. is)
       (λ s t r _ _ _ _ e. ap (λ (p : List ℕ × List ℕ). p.0) e) (λ s q r _ _ _ _ _ e. ap (λ (p : List ℕ × List ℕ). p.1) e)
       7 g (seven x) (seven y) u (seeded-in seed1 seed2 s1 s2) x_is.0 y_is.0 len (omega (arith, x_is.1)) (omega (arith, x_is.1))
       (λ i i_in other. part-same 32 (i * 32) (seven x) (seven y) len
@@ -255,10 +227,10 @@ module _ (seed1 seed2 : ℕ) (x y : List ℕ) (s1 : seed1 < 2 ^ 64) (s2 : seed2 
       differ.different (filled-same 208 x y differ.same_length (append_cancel_left none (zero_filled 208 x) (zero_filled 208 y) whole))
 
   pub short_words-differ : short_words seed1 seed2 x ≢ short_words seed1 seed2 y
-  short_words-differ = λ same. start-differ (ended-same (length y) (omega (arith, differ.same_length)) _ _
+  short_words-differ = λ same. start-differ (told (of_ended (length y) (omega (arith, differ.same_length))) _ _
       (short_start-AreFourWords seed1 seed2 x s1 s2) (short_start-AreFourWords seed1 seed2 y s1 s2)
       (ap (λ n. ended n (short_start seed1 seed2 x)) (sym differ.same_length) ∙ same))
 
   pub short_words_v1-differ : short_words_v1 seed1 seed2 x ≢ short_words_v1 seed1 seed2 y
-  short_words_v1-differ = λ same. start-differ (stepped-same 64 4 0 [] (no_data 64) rounds.short_end_steps short_end-steps _ _
+  short_words_v1-differ = λ same. start-differ (told of_end _ _
       (short_start-AreFourWords seed1 seed2 x s1 s2) (short_start-AreFourWords seed1 seed2 y s1 s2) same)
