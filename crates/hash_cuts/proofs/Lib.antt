@@ -4,4 +4,5 @@ pub mod CutLemmas
 pub mod ChunkLemmas
 pub mod EndLemmas
 pub mod InStep
+pub mod JoinedEnds
 pub mod GivenLemmas

@@ -1,8 +1,8 @@
 //! Laws of chunks, with no code. Each is of all texts and all sizes that [`Cuts::new`](crate::Cuts::new) takes.
-ghost use Rattle.std.specs.Prelude.{◌≡◌, ◌≢◌, ◌-◌, ◌%◌, ◌^◌, ◌<◌, ◌≤◌, ◌++◌, ℕ, List, [], All, length, map, take};
+ghost use Rattle.std.specs.Prelude.{◌≡◌, ◌≢◌, ◌+◌, ◌-◌, ◌%◌, ◌^◌, ◌<◌, ◌≤◌, ◌∷◌, ◌++◌, ℕ, List, [], All, length, map, take};
 ghost use Rattle.std.specs.List.{concat};
 ghost use Rattle.hashers.specs.Sums.{digit_sum};
-ghost use Rattle.hash_cuts.specs.Cuts.{Cutting, HasSizes, chunks, first_cut};
+ghost use Rattle.hash_cuts.specs.Cuts.{Cutting, HasSizes, chunk_ends, chunks, ends_from, first_cut};
 ghost use Rattle.hash_cuts.specs.Gear.{gear_of};
 
 /// The chunks joined are the text. Each has at most `most` bytes, and each but the last at least `least`.
@@ -32,6 +32,22 @@ pub fn chunks_before_stay()
     ensures { (cuts : Cutting) (x old new : List ℕ) (xs others : List (List ℕ)) → HasSizes cuts
         → chunks cuts (x ++ old) ≡ xs ++ others → others ≢ [] → concat xs ≡ x
         → chunks cuts (x ++ new) ≡ xs ++ chunks cuts new }
+{}
+
+/// Where chunks end: those of a list end after the list before it, and from a place so much further on each end is as much further on.
+pub fn ends_of_joined_lists()
+    ensures joined { (place : ℕ) (xs ys : List (List ℕ))
+        → ends_from place (xs ++ ys) ≡ ends_from place xs ++ ends_from (place + length (concat xs)) ys }
+    ensures moved { (place more : ℕ) (xs : List (List ℕ))
+        → ends_from (place + more) xs ≡ map (λ end. end + more) (ends_from place xs) }
+{}
+
+/// In step again, told by the ends: where a chunk ends before some last bytes of a text, the chunks after it end as those of these
+/// bytes alone do, each that much further on. So the ends in two texts with the same last bytes keep one distance.
+pub fn ends_in_step_again()
+    ensures { (cuts : Cutting) (x same before after : List ℕ) → HasSizes cuts
+        → chunk_ends cuts (x ++ same) ≡ before ++ length x ∷ after
+        → after ≡ map (λ end. end + length x) (chunk_ends cuts same) }
 {}
 
 /// The gear hash is the sum of the bytes' numbers, each times a power of two, modulo 2^64. So the last 64 bytes decide it.

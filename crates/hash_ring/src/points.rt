@@ -2,13 +2,14 @@
 //! order of bytes. A ring's points stand in the order of their places, and at one place in that of their nodes.
 ghost use Rattle.std.specs.Prelude.{T, ◌≡◌, ◌↔◌, ◌+◌, ◌-◌, ◌<◌, ◌≤◌, ◌^◌, ◌++◌, if◌then◌else◌, ℕ, List, IsTrue, drop, length, map, min, take};
 ghost use Rattle.std.specs.Cmp.Lexicographic.{slice_cmp};
+ghost use Rattle.std.specs.FinMap as map;
 ghost use Rattle.std.specs.FinMap.Entries.{is_sorted};
 ghost use Rattle.std.specs.Ordering.{nat_cmp};
 ghost use Rattle.std.specs.Bool.{OnFalse, OnTrue};
 ghost use Rattle.std.specs.List.{All, AllPairs, Contains, insert, remove};
 ghost use Rattle.std.specs.List.Sorted.{IsPermutation};
-ghost use Rattle.hash_ring.specs.Ring.{AreOwners, IsOwner};
-ghost use Rattle.hash_ring.specs.Points.{ArePoints, IsBefore, IsGapAt, IsRing, IsStart, MayMerge, closed_up, index_round, left_without, name_at, names_at, nodes_of, opened_up, points_of};
+ghost use Rattle.hash_ring.specs.Ring.{AreOwners, IsOwner, MovesOnlyFrom, MovesOnlyTo};
+ghost use Rattle.hash_ring.specs.Points.{ArePoints, IsBefore, IsGapAt, IsRing, IsStart, MayMerge, closed_up, index_round, left_without, name_at, names_at, node_at, nodes_of, opened_up, points_of};
 
 /// A point on the ring, and the index of its node among the nodes.
 #[repr(C)]
@@ -227,3 +228,16 @@ pub fn remove(points: &mut [Point], gone: usize) -> usize
     }
     kept
 }
+
+/// What `add` and `remove` move, a law with no code: the nodes as maps, of which the owners' laws speak, have one more or one less, and
+/// keys move to the new node alone, or from the one that has gone.
+pub fn only_one_nodes_keys_move()
+    ensures came { (hash : List ℕ → ℕ) (nodes : List (List ℕ × ℕ)) (points : List Point) (name : List ℕ) (weight index : ℕ)
+        → IsRing hash nodes points → IsGapAt nodes name index
+        → (nodes_of (insert nodes index (name, weight)) ≡ map.insert (nodes_of nodes) name weight)
+        × MovesOnlyTo hash (nodes_of nodes) (nodes_of (insert nodes index (name, weight))) name }
+    ensures went { (hash : List ℕ → ℕ) (nodes : List (List ℕ × ℕ)) (points : List Point) (gone : ℕ)
+        → IsRing hash nodes points → gone < length nodes
+        → (nodes_of (remove nodes gone) ≡ map.remove (nodes_of nodes) (node_at nodes gone).0)
+        × MovesOnlyFrom hash (nodes_of nodes) (nodes_of (remove nodes gone)) (node_at nodes gone).0 }
+{}
