@@ -4,8 +4,10 @@ use cli::frame::About;
 use cli::inputs::Complaints;
 use cli::outcome::{failure_of, status_of};
 use dedup_core::outcome::{Outcome, call_of, outcome_of};
+use hashers::build::BuildFresh;
+use hashers::null::NullHasher;
 use std::alloc::Global;
-use std::hash::{BuildHasher, Hasher};
+use std::hash::BuildHasher;
 use std::io;
 use std::io::{BufWriter, ErrorKind};
 use std::process::Abort;
@@ -74,35 +76,12 @@ impl Fresh for RandomKeys {
 }
 
 /// To all texts one hash.
-#[derive(Clone, Copy, Drop)]
-struct Alike;
+type Alike = BuildFresh<NullHasher>;
 
 impl Fresh for Alike {
     fn fresh() -> Alike {
-        Alike
+        Alike::new()
     }
-}
-
-impl BuildHasher for Alike {
-    type Hasher = Alike;
-
-    ghost build_hasher = { λ alike. alike };
-
-    fn build_hasher(&self) -> Alike {
-        Alike
-    }
-}
-
-impl Hasher for Alike {
-    ghost write = { λ alike bytes. alike };
-
-    ghost finish = { λ alike. 0 };
-
-    fn finish(&self) -> u64 {
-        0
-    }
-
-    fn write(&mut self, _bytes: &[u8]) {}
 }
 
 /// What became of a call, without the error itself.
