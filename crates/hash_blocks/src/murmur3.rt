@@ -3,5 +3,5 @@
 pub mod x64_128;
 pub mod x86_32;
 
-pub use x64_128::{Murmur3Hasher128, Murmur3Rule128, murmur3_128, murmur3_128_of_pieces};
-pub use x86_32::{Murmur3Hasher32, Murmur3Rule32, murmur3_32, murmur3_32_of_pieces};
+pub use x64_128::{Murmur3Hasher128, Murmur3Rule128, murmur3_128};
+pub use x86_32::{Murmur3Hasher32, Murmur3Rule32, murmur3_32};

@@ -4,9 +4,6 @@ mod hasher;
 mod keys;
 mod rounds;
 
-pub use hasher::{
-    SipHasher13, SipHasher24, SipKey, SipRule, siphash13, siphash13_of_pieces, siphash24,
-    siphash24_of_pieces,
-};
+pub use hasher::{SipHasher13, SipHasher24, SipKey, SipRule, siphash13, siphash24};
 pub use keys::SipKeys;
 pub use rounds::{sip_round, sip_unround, sip_word_out};

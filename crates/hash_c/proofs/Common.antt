@@ -7,7 +7,6 @@ pub use Rattle.hash_keyed.specs.Poly61State.{as_word, poly_end}
 pub use Rattle.hash_kinds.specs.Named.{hash_at}
 pub use Rattle.hash_more.specs.Crc32.{all_ones, crc_answer}
 pub use Rattle.hash_ring.specs.Points.{points_of}
-pub use Rattle.hash_xxh3.specs.Place.{place_of}
 pub use Rattle.hashers.proofs.XorLemmas.{xor_twice}
 pub use Rattle.std.proofs.Common.{IsPermutation, List, Some, [], ap, append_assoc, ap₂, arith, drop, get_or, length, map, refl, rules, set, slice_index, subst, suc, sym, take, tests, unwrap_or, zero, ℕ, ◌%◌, ◌++◌, ◌+◌, ◌-◌, ◌<◌, ◌^◌, ◌↔◌, ◌∙◌, ◌∷◌, ◌≡◌, ◌≢◌, ◌≤◌}
 pub use Rattle.std.proofs.lemmas.List.{append-nil, drop_all, get_or-map, length-map, length_push, map-append, take-append-drop, take_all, take_more_set, take_rest}

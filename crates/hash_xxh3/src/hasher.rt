@@ -1,15 +1,14 @@
 //! XXH3 of a text that comes piece by piece.
 ghost use Rattle.std.specs.Prelude.{◌≡◌, ◌+◌, ◌<◌, ◌^◌, ◌∷◌, ◌++◌};
-ghost use Rattle.hash_xxh3.specs.Common.{Some, None, ℕ, List, [], refl, Fits, place_of, Position, position, after, hash, IsPosition, Xxh3StandsAt, xxh3_from, wide_hash, xxh3_128_of, xxh3_64_of};
+ghost use Rattle.hash_xxh3.specs.Common.{Some, None, ℕ, List, [], refl, Fits, StandsBehind, place_of, Position, position, after, hash, IsPosition, Xxh3StandsAt, xxh3_from, wide_hash, xxh3_128_of, xxh3_64_of};
 ghost use Rattle.std.proofs.Common.{lit<};
-ghost use Rattle.hash_laws.specs.Text.{joined};
 ghost use Rattle.hash_xxh3.specs.StreamingLaws.{IsPosition-fresh, IsPosition-after, after-nil, after-append, hash-position, hash_of_fresh, stands_at_seed, stands_after, hash_from_seed, answer_where_stands};
 
 use crate::long::lanes_at;
 use crate::parts::Xxh3Parts;
 use crate::place::Xxh3Place;
 use crate::whole::xxh3_64;
-use hash_laws::traits::{Piecewise, Streamed, run_streamed};
+use hash_laws::traits::{Piecewise, Streamed};
 use std::hash::Hasher;
 use std::marker::Model;
 
@@ -75,6 +74,8 @@ impl Xxh3Hasher {
     pub fn place(&self) -> Xxh3Place
         ensures there { place_of result ≡ self.now }
         ensures fits { Fits result }
+        ensures stands { (seed : ℕ) (text : List ℕ) → self.now ≡ position seed text
+            → StandsBehind result seed text }
     {
         let parts = &self.parts;
         Xxh3Place {
@@ -93,6 +94,8 @@ impl Xxh3Hasher {
     pub fn finish128(&self) -> (u64, u64)
         ensures value { result ≡ wide_hash self.now }
         ensures of_text { (seed : ℕ) (text : List ℕ) → self.now ≡ position seed text
+            → result ≡ xxh3_128_of seed text }
+        ensures where_it_stands { (seed : ℕ) (text : List ℕ) → Xxh3StandsAt self.now (seed ∷ []) text
             → result ≡ xxh3_128_of seed text }
     {
         self.parts.finish128()
@@ -119,6 +122,8 @@ impl Hasher for Xxh3Hasher {
         ensures value { result ≡ hash self.now }
         ensures in_range { IsPosition self.now }
         ensures of_text { (seed : ℕ) (text : List ℕ) → self.now ≡ position seed text
+            → result ≡ xxh3_64_of seed text }
+        ensures where_it_stands { (seed : ℕ) (text : List ℕ) → Xxh3StandsAt self.now (seed ∷ []) text
             → result ≡ xxh3_64_of seed text }
     {
         self.parts.finish()
@@ -201,22 +206,4 @@ impl Streamed for Xxh3Hasher {
     ghost hash_from_start = { hash_from_seed };
 
     ghost stands_answers = { answer_where_stands };
-}
-
-/// XXH3 of 64 bits of pieces under a seed: that of the joined text.
-pub fn xxh3_64_of_pieces(seed: u64, pieces: &[&[u8]]) -> u64
-    ensures { result ≡ xxh3_64_of seed (joined pieces.now) }
-{
-    let mut hasher = Xxh3Hasher::new(seed);
-    run_streamed(&mut hasher, pieces);
-    hasher.finish()
-}
-
-/// XXH3 of 128 bits of pieces under a seed: that of the joined text.
-pub fn xxh3_128_of_pieces(seed: u64, pieces: &[&[u8]]) -> (u64, u64)
-    ensures { result ≡ xxh3_128_of seed (joined pieces.now) }
-{
-    let mut hasher = Xxh3Hasher::new(seed);
-    run_streamed(&mut hasher, pieces);
-    hasher.finish128()
 }

@@ -1,6 +1,6 @@
 //! What a hasher of XXH3 keeps, in numbers that a caller keeps itself.
 ghost use Rattle.std.specs.Prelude.{◌≡◌, ◌↔◌, ◌+◌, ◌≤◌, ◌≢◌, ◌++◌};
-ghost use Rattle.hash_xxh3.specs.Common.{IsTrue, Some, None, ℕ, List, length, Fits, StandsBehind, place_of, after, hash, wide_hash};
+ghost use Rattle.hash_xxh3.specs.Common.{IsTrue, Some, None, ℕ, List, length, Fits, StandsBehind, place_of, after, hash, wide_hash, xxh3_64_of, xxh3_128_of};
 
 use crate::advance::{advance_under, begin_through, keep_all};
 use crate::long::{START, end_kept, lanes_at};
@@ -114,45 +114,69 @@ impl Xxh3Place {
         }
     }
 
-    /// The hash of the bytes so far; `None` of numbers that no hasher keeps.
+    // The hash of numbers that a hasher keeps.
     #[inline(always)]
     #[tactic(auto, using(crate::proofs::SecretLemmas::secret_of_none), unfolding(crate::specs::Streaming::advanced))]
-    pub fn hash(&self) -> Option<u64>
-        ensures some { Fits self.now → result ≡ Some (hash (place_of self.now)) }
-        ensures none { ¬ Fits self.now → result ≡ None }
+    fn hash_kept(&self) -> u64
+        requires { Fits self.now }
+        ensures { result ≡ hash (place_of self.now) }
     {
-        if !self.fits() {
-            return None;
-        }
         let kept = &self.buffer[..self.kept as usize];
         if self.long == 0 {
-            return Some(of_kept(self.seed, kept));
+            return of_kept(self.seed, kept);
         }
         let lanes = lanes_at(self.words, self.stripe);
         if self.seed == 0 {
-            return Some(end_kept(default_secret(), &lanes, kept, self.length));
+            return end_kept(default_secret(), &lanes, kept, self.length);
         }
-        Some(end_kept(&secret_of(self.seed), &lanes, kept, self.length))
+        end_kept(&secret_of(self.seed), &lanes, kept, self.length)
+    }
+
+    /// The hash of the bytes so far; `None` of numbers that no hasher keeps.
+    #[inline(always)]
+    pub fn hash(&self) -> Option<u64>
+        ensures some { Fits self.now → result ≡ Some (hash (place_of self.now)) }
+        ensures of_text { (seed : ℕ) (text : List ℕ) → StandsBehind self.now seed text
+            → result ≡ Some (xxh3_64_of seed text) }
+        ensures none { ¬ Fits self.now → result ≡ None }
+    {
+        if self.fits() {
+            Some(self.hash_kept())
+        } else {
+            None
+        }
+    }
+
+    // The same of 128 bits.
+    #[inline(always)]
+    #[tactic(auto, using(crate::proofs::SecretLemmas::secret_of_none), unfolding(crate::specs::Streaming::advanced))]
+    fn hash128_kept(&self) -> (u64, u64)
+        requires { Fits self.now }
+        ensures { result ≡ wide_hash (place_of self.now) }
+    {
+        let kept = &self.buffer[..self.kept as usize];
+        if self.long == 0 {
+            return wide_kept(self.seed, kept);
+        }
+        let lanes = lanes_at(self.words, self.stripe);
+        if self.seed == 0 {
+            return wide_end_kept(default_secret(), &lanes, kept, self.length);
+        }
+        wide_end_kept(&secret_of(self.seed), &lanes, kept, self.length)
     }
 
     /// The same of 128 bits: the low word and the high one.
     #[inline(always)]
-    #[tactic(auto, using(crate::proofs::SecretLemmas::secret_of_none), unfolding(crate::specs::Streaming::advanced))]
     pub fn hash128(&self) -> Option<(u64, u64)>
         ensures some { Fits self.now → result ≡ Some (wide_hash (place_of self.now)) }
+        ensures of_text { (seed : ℕ) (text : List ℕ) → StandsBehind self.now seed text
+            → result ≡ Some (xxh3_128_of seed text) }
         ensures none { ¬ Fits self.now → result ≡ None }
     {
-        if !self.fits() {
-            return None;
+        if self.fits() {
+            Some(self.hash128_kept())
+        } else {
+            None
         }
-        let kept = &self.buffer[..self.kept as usize];
-        if self.long == 0 {
-            return Some(wide_kept(self.seed, kept));
-        }
-        let lanes = lanes_at(self.words, self.stripe);
-        if self.seed == 0 {
-            return Some(wide_end_kept(default_secret(), &lanes, kept, self.length));
-        }
-        Some(wide_end_kept(&secret_of(self.seed), &lanes, kept, self.length))
     }
 }

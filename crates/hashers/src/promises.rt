@@ -13,7 +13,17 @@ ghost use Rattle.hash_jenkins.specs.Lookup3.{lookup3_from, lookup3_answer};
 ghost use Rattle.hash_jenkins.specs.Oaat.{oaat_state, oaat_finish, oaat_of};
 ghost use Rattle.hash_jenkins.specs.Spooky.{spooky, spooky_v1};
 ghost use Rattle.hash_bytes.specs.Pigeon.{bricolage_from};
+ghost use Rattle.hash_blocks.specs.Murmur3.{murmur3_32};
+ghost use Rattle.hash_blocks.specs.Murmur3x128.{murmur3_128};
+ghost use Rattle.hash_blocks.specs.Xxh32.{xxh32};
+ghost use Rattle.hash_blocks.specs.Xxh64.{xxh64};
+ghost use Rattle.hash_blocks.specs.SipHash.{siphash};
+ghost use Rattle.hash_xxh3.specs.Wide.{xxh3_128_of};
+ghost use Rattle.hash_xxh3.specs.Xxh3.{xxh3_64_of};
 
+use hash_blocks::murmur3::{Murmur3Hasher32, Murmur3Hasher128};
+use hash_blocks::siphash::{SipHasher13, SipHasher24, SipKey};
+use hash_blocks::xxhash::{Xxh32Hasher, Xxh64Hasher};
 use hash_bytes::fnv::{FNV1aHasher32, FNV1aHasher64};
 use hash_bytes::null::{NullHasher, PassThroughHasher};
 use hash_bytes::oz::{DJB2Hasher, LoseLoseHasher, SDBMHasher};
@@ -30,6 +40,7 @@ use hash_rounds::{
 use hash_writes::writes::{
     HasherWrite, answer_of_writes, run_writes, run_writes_streamed, unrun_writes,
 };
+use hash_xxh3::Xxh3Hasher;
 use std::hash::Hasher;
 use std::slice;
 
@@ -121,6 +132,78 @@ pub fn spooky_v1_of_writes(seed1: u64, seed2: u64, writes: &[HasherWrite]) -> (u
     let mut hasher = SpookyHasher::new(seed1, seed2);
     run_writes_streamed(&mut hasher, writes);
     hasher.finish128_v1()
+}
+
+/// XXH32 of the joined bytes of the writes, under any seed.
+pub fn xxh32_of_writes(seed: u32, writes: &[HasherWrite]) -> u32
+    ensures { result ≡ xxh32 seed (joined_written writes.now) }
+{
+    let mut hasher = Xxh32Hasher::new(seed);
+    run_writes_streamed(&mut hasher, writes);
+    hasher.hash()
+}
+
+/// XXH64 of the joined bytes of the writes, under any seed.
+pub fn xxh64_of_writes(seed: u64, writes: &[HasherWrite]) -> u64
+    ensures { result ≡ xxh64 seed (joined_written writes.now) }
+{
+    let mut hasher = Xxh64Hasher::new(seed);
+    run_writes_streamed(&mut hasher, writes);
+    hasher.hash()
+}
+
+/// MurmurHash3_x86_32 of the joined bytes of the writes, under any seed.
+pub fn murmur3_32_of_writes(seed: u32, writes: &[HasherWrite]) -> u32
+    ensures { result ≡ murmur3_32 seed (joined_written writes.now) }
+{
+    let mut hasher = Murmur3Hasher32::new(seed);
+    run_writes_streamed(&mut hasher, writes);
+    hasher.hash()
+}
+
+/// MurmurHash3_x64_128 of the joined bytes of the writes, under any seed.
+pub fn murmur3_128_of_writes(seed: u64, writes: &[HasherWrite]) -> (u64, u64)
+    ensures { result ≡ murmur3_128 seed (joined_written writes.now) }
+{
+    let mut hasher = Murmur3Hasher128::new(seed);
+    run_writes_streamed(&mut hasher, writes);
+    hasher.hash()
+}
+
+/// SipHash-1-3 of the joined bytes of the writes, under any key.
+pub fn siphash13_of_writes(key: SipKey, writes: &[HasherWrite]) -> u64
+    ensures { result ≡ siphash 1 3 key.k0 key.k1 (joined_written writes.now) }
+{
+    let mut hasher = SipHasher13::new(key);
+    run_writes_streamed(&mut hasher, writes);
+    hasher.hash()
+}
+
+/// SipHash-2-4 of the joined bytes of the writes, under any key.
+pub fn siphash24_of_writes(key: SipKey, writes: &[HasherWrite]) -> u64
+    ensures { result ≡ siphash 2 4 key.k0 key.k1 (joined_written writes.now) }
+{
+    let mut hasher = SipHasher24::new(key);
+    run_writes_streamed(&mut hasher, writes);
+    hasher.hash()
+}
+
+/// XXH3 of 64 bits of the joined bytes of the writes, under any seed.
+pub fn xxh3_64_of_writes(seed: u64, writes: &[HasherWrite]) -> u64
+    ensures { result ≡ xxh3_64_of seed (joined_written writes.now) }
+{
+    let mut hasher = Xxh3Hasher::new(seed);
+    run_writes_streamed(&mut hasher, writes);
+    hasher.finish()
+}
+
+/// XXH3 of 128 bits of the joined bytes of the writes, under any seed.
+pub fn xxh3_128_of_writes(seed: u64, writes: &[HasherWrite]) -> (u64, u64)
+    ensures { result ≡ xxh3_128_of seed (joined_written writes.now) }
+{
+    let mut hasher = Xxh3Hasher::new(seed);
+    run_writes_streamed(&mut hasher, writes);
+    hasher.finish128()
 }
 
 /// `lookup3` of the writes: each of some bytes is one run from the two words before.

@@ -7,6 +7,7 @@ use hashers_proved::jenkins::spooky_hash::*;
 use hashers_proved::keyed::*;
 use hashers_proved::laws::{self, HasherWrite, Piecewise, Streamed, Undo};
 use hashers_proved::numbers::NumberKeys;
+use hashers_proved::promises::{xxh3_64_of_writes, xxh3_128_of_writes};
 use hashers_proved::xxh3::*;
 use hashers_proved::{fnv::*, fx_hash::*, jenkins::*, more::*, null::*, oz::*, pigeon::*};
 use std::fmt::Debug;
@@ -178,14 +179,14 @@ fn by_the_block<R: BlockRule<N, Hash: PartialEq + Debug>, const N: usize>(seed: 
     h.hash()
 }
 
-/// XXH3 of 64 and of 128 bits under a seed, by a hasher, by the functions of pieces, and by those of a text.
+/// XXH3 of 64 and of 128 bits under a seed, by a hasher, by the functions of writes, and by those of a text.
 fn under_a_seed(seed: u64, p: &Pieces) -> (String, String) {
-    let (text, pieces) = (p.concat(), p.iter().map(Vec::as_slice).collect::<Vec<_>>());
+    let (text, writes) = (p.concat(), p.iter().map(|piece| HasherWrite::Bytes(piece)).collect::<Vec<_>>());
     let mut h = Xxh3Hasher::new(seed);
-    pieces.iter().for_each(|p| h.write(p));
+    p.iter().for_each(|piece| h.write(piece));
     let (low, high) = h.finish128();
-    assert_eq!((h.finish(), h.finish()), (xxh3_64(seed, &text), xxh3_64_of_pieces(seed, &pieces)));
-    assert_eq!([(low, high); 2], [xxh3_128(seed, &text), xxh3_128_of_pieces(seed, &pieces)]);
+    assert_eq!((h.finish(), h.finish()), (xxh3_64(seed, &text), xxh3_64_of_writes(seed, &writes)));
+    assert_eq!([(low, high); 2], [xxh3_128(seed, &text), xxh3_128_of_writes(seed, &writes)]);
     (h.finish().to_string(), (u128::from(high) << 64 | u128::from(low)).to_string())
 }
 

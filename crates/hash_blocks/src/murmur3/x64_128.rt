@@ -1,7 +1,6 @@
 //! MurmurHash3_x64_128.
 ghost use Rattle.std.specs.Prelude.{◌≡◌, ◌*◌, ◌^◌, ◌<◌, [], ◌∷◌, length, slice_index, take, drop, refl};
 ghost use Rattle.std.proofs.Common.{lit<};
-ghost use Rattle.hash_laws.specs.Text.{joined};
 ghost use Rattle.hash_words.specs.Words.{le};
 ghost use Rattle.hash_blocks.specs.Murmur3x128.{scrambled, scramble1, scramble2, turned, after_words, after_block, crossed, folded, last_mix, ended, murmur3_128};
 ghost use Rattle.hash_blocks.specs.Murmur3x128Laws.{total_wraps};
@@ -187,11 +186,4 @@ pub fn murmur3_128(seed: u64, bytes: &[u8]) -> (u64, u64)
     ensures { result ≡ murmur3_128 seed bytes.now }
 {
     Murmur3Hasher128::hash_of(seed, bytes)
-}
-
-/// The same of a text in pieces: how it was split does not matter.
-pub fn murmur3_128_of_pieces(seed: u64, pieces: &[&[u8]]) -> (u64, u64)
-    ensures { result ≡ murmur3_128 seed (joined pieces.now) }
-{
-    Murmur3Hasher128::new(seed).hash_with(pieces)
 }

@@ -1,7 +1,6 @@
 //! MurmurHash3_x86_32.
 ghost use Rattle.std.specs.Prelude.{◌≡◌, ◌%◌, ◌^◌, ◌<◌, [], ◌∷◌, length, slice_index, refl};
 ghost use Rattle.std.proofs.Common.{lit<};
-ghost use Rattle.hash_laws.specs.Text.{joined};
 ghost use Rattle.hash_words.specs.Words.{le};
 ghost use Rattle.hash_blocks.specs.Murmur3.{scramble, after_word, last_mix, after_block, ended, murmur3_32};
 ghost use Rattle.hash_blocks.specs.Murmur3Laws.{total_wraps};
@@ -119,11 +118,4 @@ pub fn murmur3_32(seed: u32, bytes: &[u8]) -> u32
     ensures { result ≡ murmur3_32 seed bytes.now }
 {
     Murmur3Hasher32::hash_of(seed, bytes)
-}
-
-/// The same of a text in pieces: how it was split does not matter.
-pub fn murmur3_32_of_pieces(seed: u32, pieces: &[&[u8]]) -> u32
-    ensures { result ≡ murmur3_32 seed (joined pieces.now) }
-{
-    Murmur3Hasher32::new(seed).hash_with(pieces)
 }

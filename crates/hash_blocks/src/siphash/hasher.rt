@@ -1,7 +1,6 @@
 //! SipHash-c-d.
 ghost use Rattle.std.specs.Prelude.{◌≡◌, ◌+◌, ◌*◌, ◌^◌, ◌<◌, [], ◌∷◌, slice_index, refl};
 ghost use Rattle.std.proofs.Common.{lit<};
-ghost use Rattle.hash_laws.specs.Text.{joined};
 ghost use Rattle.hash_blocks.specs.SipHash.{after_block, after_word, ended, siphash, start, xored};
 ghost use Rattle.hash_blocks.specs.SipHashLaws.{total_wraps};
 
@@ -121,18 +120,4 @@ pub fn siphash24(key: SipKey, bytes: &[u8]) -> u64
     ensures { result ≡ siphash 2 4 key.k0 key.k1 bytes.now }
 {
     SipHasher24::hash_of(key, bytes)
-}
-
-/// The same of a text in pieces: how it was cut doesn't show.
-pub fn siphash24_of_pieces(key: SipKey, pieces: &[&[u8]]) -> u64
-    ensures { result ≡ siphash 2 4 key.k0 key.k1 (joined pieces.now) }
-{
-    SipHasher24::new(key).hash_with(pieces)
-}
-
-/// The same of a text in pieces: how it was cut doesn't show.
-pub fn siphash13_of_pieces(key: SipKey, pieces: &[&[u8]]) -> u64
-    ensures { result ≡ siphash 1 3 key.k0 key.k1 (joined pieces.now) }
-{
-    SipHasher13::new(key).hash_with(pieces)
 }

@@ -1,7 +1,6 @@
 //! XXH32.
 ghost use Rattle.std.specs.Prelude.{◌≡◌, ◌*◌, ◌%◌, ◌^◌, ◌<◌, [], ◌∷◌, slice_index};
 ghost use Rattle.std.proofs.Common.{lit<};
-ghost use Rattle.hash_laws.specs.Text.{joined};
 ghost use Rattle.hash_words.specs.Pieces.{pieces};
 ghost use Rattle.hash_blocks.specs.Xxh32.{after_block, byte_in, converged, four_in, last_mix, rest_in, round, start, words_of, xxh32};
 
@@ -221,11 +220,4 @@ pub fn xxh32(seed: u32, bytes: &[u8]) -> u32
     ensures { result ≡ xxh32 seed bytes.now }
 {
     Xxh32Hasher::hash_of(seed, bytes)
-}
-
-/// The same of a text in pieces: how it was split does not matter.
-pub fn xxh32_of_pieces(seed: u32, pieces: &[&[u8]]) -> u32
-    ensures { result ≡ xxh32 seed (joined pieces.now) }
-{
-    Xxh32Hasher::new(seed).hash_with(pieces)
 }

@@ -1,7 +1,6 @@
 //! XXH64.
 ghost use Rattle.std.specs.Prelude.{◌≡◌, ◌*◌, ◌^◌, ◌<◌, [], ◌∷◌, slice_index};
 ghost use Rattle.std.proofs.Common.{lit<};
-ghost use Rattle.hash_laws.specs.Text.{joined};
 ghost use Rattle.hash_words.specs.Pieces.{le_words};
 ghost use Rattle.hash_blocks.specs.Xxh64.{after_block, byte_in, converged, eight_in, four_in, last_mix, merged, rest_in, round, start, xxh64};
 
@@ -249,11 +248,4 @@ pub fn xxh64(seed: u64, bytes: &[u8]) -> u64
     ensures { result ≡ xxh64 seed bytes.now }
 {
     Xxh64Hasher::hash_of(seed, bytes)
-}
-
-/// The same of a text in pieces: how it was split does not matter.
-pub fn xxh64_of_pieces(seed: u64, pieces: &[&[u8]]) -> u64
-    ensures { result ≡ xxh64 seed (joined pieces.now) }
-{
-    Xxh64Hasher::new(seed).hash_with(pieces)
 }

@@ -12,6 +12,8 @@ ghost use Rattle.hash_xxh3.specs.Wide.{xxh3_128_of};
 ghost use Rattle.hash_xxh3.specs.Xxh3.{xxh3_64_of};
 
 use hash_laws::traits::bytes_are_a_text;
+use hash_xxh3::BuildXxh3;
+use std::hash::BuildHasher;
 
 /// Texts of one to three bytes never collide, whatever their lengths, under any seed.
 #[tactic(auto, using(crate::proofs::ShortLemmas::few_bytes_same))]
@@ -36,6 +38,16 @@ pub fn keys_of_one_width_never_collide()
         → All (λ other. IsText other × (length other ≡ width)) keys → IsText key → length key ≡ width
         → Contains keys key ↔ Contains (map (xxh3_64_of seed) keys) (xxh3_64_of seed key) }
 {}
+
+/// The hash of a number as a key under `BuildXxh3`: that of its 8 bytes, the lowest first. No other number has it.
+pub fn hash_one_number(keys: BuildXxh3, key: u64) -> u64
+    ensures value { result ≡ xxh3_64_of keys.seed (le_bytes 8 key) }
+    ensures alone { (other : ℕ) → other < 2 ^ 64
+        → result ≡ xxh3_64_of keys.seed (le_bytes 8 other) → other ≡ key }
+{
+    keys_of_one_width_never_collide();
+    keys.hash_one::<u64>(key)
+}
 
 /// Texts of one length of at most sixteen bytes never collide under the hash of 128 bits, under any seed.
 #[tactic(auto, using(crate::proofs::WideLemmas::short_same))]

@@ -5,8 +5,5 @@
 mod hasher;
 mod rounds;
 
-pub use hasher::{
-    SipHasher13, SipHasher24, SipKey, SipRule, siphash13, siphash13_of_pieces, siphash24,
-    siphash24_of_pieces,
-};
+pub use hasher::{SipHasher13, SipHasher24, SipKey, SipRule, siphash13, siphash24};
 pub use rounds::{sip_round, sip_unround, sip_word_out};

@@ -5,5 +5,5 @@
 pub mod at_32;
 pub mod at_64;
 
-pub use at_32::{Lanes32, Xxh32Hasher, Xxh32Rule, xxh32, xxh32_of_pieces};
-pub use at_64::{Lanes, Xxh64Hasher, Xxh64Rule, xxh64, xxh64_of_pieces};
+pub use at_32::{Lanes32, Xxh32Hasher, Xxh32Rule, xxh32};
+pub use at_64::{Lanes, Xxh64Hasher, Xxh64Rule, xxh64};

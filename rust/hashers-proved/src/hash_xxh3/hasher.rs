@@ -7,7 +7,7 @@ use crate::hash_xxh3::long::lanes_at;
 use crate::hash_xxh3::parts::Xxh3Parts;
 use crate::hash_xxh3::place::Xxh3Place;
 use crate::hash_xxh3::whole::xxh3_64;
-use hash_laws::traits::{Piecewise, Streamed, run_streamed};
+use hash_laws::traits::{Piecewise, Streamed};
 use std::hash::Hasher;
 
 /// XXH3 of a text that comes piece by piece, under a seed. How the bytes were split into pieces does not matter.
@@ -66,6 +66,8 @@ impl Xxh3Hasher {
     /// ```text
     /// there: place_of result ≡ self.now
     /// fits: Fits result
+    /// stands: (seed : ℕ) (text : List ℕ) → self.now ≡ position seed text
+    ///     → StandsBehind result seed text
     /// ```
     #[inline]
     pub fn place(&self) -> Xxh3Place {
@@ -88,6 +90,8 @@ impl Xxh3Hasher {
     /// ```text
     /// value: result ≡ wide_hash self.now
     /// of_text: (seed : ℕ) (text : List ℕ) → self.now ≡ position seed text
+    ///     → result ≡ xxh3_128_of seed text
+    /// where_it_stands: (seed : ℕ) (text : List ℕ) → Xxh3StandsAt self.now (seed ∷ []) text
     ///     → result ≡ xxh3_128_of seed text
     /// ```
     #[inline(always)]
@@ -113,6 +117,8 @@ impl Hasher for Xxh3Hasher {
     /// value: result ≡ hash self.now
     /// in_range: IsPosition self.now
     /// of_text: (seed : ℕ) (text : List ℕ) → self.now ≡ position seed text
+    ///     → result ≡ xxh3_64_of seed text
+    /// where_it_stands: (seed : ℕ) (text : List ℕ) → Xxh3StandsAt self.now (seed ∷ []) text
     ///     → result ≡ xxh3_64_of seed text
     /// ```
     #[inline(always)]
@@ -155,31 +161,3 @@ impl Piecewise for Xxh3Hasher {
 }
 
 impl Streamed for Xxh3Hasher {}
-
-/// XXH3 of 64 bits of pieces under a seed: that of the joined text.
-///
-/// Proved:
-///
-/// ```text
-/// result ≡ xxh3_64_of seed (joined pieces.now)
-/// ```
-#[inline]
-pub fn xxh3_64_of_pieces(seed: u64, pieces: &[&[u8]]) -> u64 {
-    let mut hasher = Xxh3Hasher::new(seed);
-    run_streamed(&mut hasher, pieces);
-    hasher.finish()
-}
-
-/// XXH3 of 128 bits of pieces under a seed: that of the joined text.
-///
-/// Proved:
-///
-/// ```text
-/// result ≡ xxh3_128_of seed (joined pieces.now)
-/// ```
-#[inline]
-pub fn xxh3_128_of_pieces(seed: u64, pieces: &[&[u8]]) -> (u64, u64) {
-    let mut hasher = Xxh3Hasher::new(seed);
-    run_streamed(&mut hasher, pieces);
-    hasher.finish128()
-}

@@ -16,7 +16,7 @@ mod wide;
 pub mod words;
 
 pub use build::BuildXxh3;
-pub use hasher::{Xxh3Hasher, xxh3_64_of_pieces, xxh3_128_of_pieces};
+pub use hasher::Xxh3Hasher;
 pub use place::Xxh3Place;
 pub use whole::xxh3_64;
 pub use wide::xxh3_128;

@@ -148,28 +148,73 @@ impl Xxh3Place {
         }
     }
 
+    // The hash of numbers that a hasher keeps.
+    /// The caller has to see to it that:
+    ///
+    /// ```text
+    /// Fits self.now
+    /// ```
+    ///
+    /// Proved:
+    ///
+    /// ```text
+    /// result ≡ hash (place_of self.now)
+    /// ```
+    #[inline(always)]
+    fn hash_kept(&self) -> u64 {
+        let kept = &self.buffer[..self.kept as usize];
+        if self.long == 0 {
+            return of_kept(self.seed, kept);
+        }
+        let lanes = lanes_at(self.words, self.stripe);
+        if self.seed == 0 {
+            return end_kept(default_secret(), &lanes, kept, self.length);
+        }
+        end_kept(&secret_of(self.seed), &lanes, kept, self.length)
+    }
+
     /// The hash of the bytes so far; `None` of numbers that no hasher keeps.
     ///
     /// Proved:
     ///
     /// ```text
     /// some: Fits self.now → result ≡ Some (hash (place_of self.now))
+    /// of_text: (seed : ℕ) (text : List ℕ) → StandsBehind self.now seed text
+    ///     → result ≡ Some (xxh3_64_of seed text)
     /// none: ¬ Fits self.now → result ≡ None
     /// ```
     #[inline(always)]
     pub fn hash(&self) -> Option<u64> {
-        if !self.fits() {
-            return None;
+        if self.fits() {
+            Some(self.hash_kept())
+        } else {
+            None
         }
+    }
+
+    // The same of 128 bits.
+    /// The caller has to see to it that:
+    ///
+    /// ```text
+    /// Fits self.now
+    /// ```
+    ///
+    /// Proved:
+    ///
+    /// ```text
+    /// result ≡ wide_hash (place_of self.now)
+    /// ```
+    #[inline(always)]
+    fn hash128_kept(&self) -> (u64, u64) {
         let kept = &self.buffer[..self.kept as usize];
         if self.long == 0 {
-            return Some(of_kept(self.seed, kept));
+            return wide_kept(self.seed, kept);
         }
         let lanes = lanes_at(self.words, self.stripe);
         if self.seed == 0 {
-            return Some(end_kept(default_secret(), &lanes, kept, self.length));
+            return wide_end_kept(default_secret(), &lanes, kept, self.length);
         }
-        Some(end_kept(&secret_of(self.seed), &lanes, kept, self.length))
+        wide_end_kept(&secret_of(self.seed), &lanes, kept, self.length)
     }
 
     /// The same of 128 bits: the low word and the high one.
@@ -178,21 +223,16 @@ impl Xxh3Place {
     ///
     /// ```text
     /// some: Fits self.now → result ≡ Some (wide_hash (place_of self.now))
+    /// of_text: (seed : ℕ) (text : List ℕ) → StandsBehind self.now seed text
+    ///     → result ≡ Some (xxh3_128_of seed text)
     /// none: ¬ Fits self.now → result ≡ None
     /// ```
     #[inline(always)]
     pub fn hash128(&self) -> Option<(u64, u64)> {
-        if !self.fits() {
-            return None;
+        if self.fits() {
+            Some(self.hash128_kept())
+        } else {
+            None
         }
-        let kept = &self.buffer[..self.kept as usize];
-        if self.long == 0 {
-            return Some(wide_kept(self.seed, kept));
-        }
-        let lanes = lanes_at(self.words, self.stripe);
-        if self.seed == 0 {
-            return Some(wide_end_kept(default_secret(), &lanes, kept, self.length));
-        }
-        Some(wide_end_kept(&secret_of(self.seed), &lanes, kept, self.length))
     }
 }

@@ -3,6 +3,7 @@ use hashers_proved::build::{feed_key, BuildFresh};
 use hashers_proved::jenkins::spooky_hash::{spooky128, SpookyHasher};
 use hashers_proved::laws::{self, HasherWrite, Piecewise, Undo};
 use hashers_proved::promises::{self, WayBack};
+use hashers_proved::{blocks, xxh3};
 use hashers_proved::{fnv::*, fx_hash::*, jenkins::*, null::*, oz::*, pigeon::*, rounds};
 use std::hash::{BuildHasher, Hash, Hasher};
 
@@ -57,6 +58,15 @@ fn answers_to_writes() {
         assert_eq!(found, wanted, "row {number}");
     }
     assert_eq!(promises::spooky_of_writes(1, 2, &WRITES), spooky128(1, 2, &text));
+    assert_eq!(promises::xxh3_64_of_writes(1, &WRITES), xxh3::xxh3_64(1, &text));
+    assert_eq!(promises::xxh3_128_of_writes(1, &WRITES), xxh3::xxh3_128(1, &text));
+    assert_eq!(promises::xxh32_of_writes(1, &WRITES), blocks::xxh32(1, &text));
+    assert_eq!(promises::xxh64_of_writes(1, &WRITES), blocks::xxh64(1, &text));
+    assert_eq!(promises::murmur3_32_of_writes(1, &WRITES), blocks::murmur3_32(1, &text));
+    assert_eq!(promises::murmur3_128_of_writes(1, &WRITES), blocks::murmur3_128(1, &text));
+    let key = blocks::SipKey { k0: 1, k1: 2 };
+    assert_eq!(promises::siphash13_of_writes(key, &WRITES), blocks::siphash13(key, &text));
+    assert_eq!(promises::siphash24_of_writes(key, &WRITES), blocks::siphash24(key, &text));
     let mut parts = SpookyHasher::new(1, 2);
     parts.write(&text);
     assert_eq!(promises::spooky_v1_of_writes(1, 2, &WRITES), parts.finish128_v1());

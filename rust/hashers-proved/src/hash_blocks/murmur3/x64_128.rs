@@ -214,15 +214,3 @@ pub type Murmur3Hasher128 = BlockHasher<Murmur3Rule128, 16>;
 pub fn murmur3_128(seed: u64, bytes: &[u8]) -> (u64, u64) {
     Murmur3Hasher128::hash_of(seed, bytes)
 }
-
-/// The same of a text in pieces: how it was split does not matter.
-///
-/// Proved:
-///
-/// ```text
-/// result ≡ murmur3_128 seed (joined pieces.now)
-/// ```
-#[inline]
-pub fn murmur3_128_of_pieces(seed: u64, pieces: &[&[u8]]) -> (u64, u64) {
-    Murmur3Hasher128::new(seed).hash_with(pieces)
-}

@@ -114,15 +114,3 @@ pub type Murmur3Hasher32 = BlockHasher<Murmur3Rule32, 4>;
 pub fn murmur3_32(seed: u32, bytes: &[u8]) -> u32 {
     Murmur3Hasher32::hash_of(seed, bytes)
 }
-
-/// The same of a text in pieces: how it was split does not matter.
-///
-/// Proved:
-///
-/// ```text
-/// result ≡ murmur3_32 seed (joined pieces.now)
-/// ```
-#[inline]
-pub fn murmur3_32_of_pieces(seed: u32, pieces: &[&[u8]]) -> u32 {
-    Murmur3Hasher32::new(seed).hash_with(pieces)
-}

@@ -112,27 +112,3 @@ pub fn siphash13(key: SipKey, bytes: &[u8]) -> u64 {
 pub fn siphash24(key: SipKey, bytes: &[u8]) -> u64 {
     SipHasher24::hash_of(key, bytes)
 }
-
-/// The same of a text in pieces: how it was cut doesn't show.
-///
-/// Proved:
-///
-/// ```text
-/// result ≡ siphash 2 4 key.k0 key.k1 (joined pieces.now)
-/// ```
-#[inline]
-pub fn siphash24_of_pieces(key: SipKey, pieces: &[&[u8]]) -> u64 {
-    SipHasher24::new(key).hash_with(pieces)
-}
-
-/// The same of a text in pieces: how it was cut doesn't show.
-///
-/// Proved:
-///
-/// ```text
-/// result ≡ siphash 1 3 key.k0 key.k1 (joined pieces.now)
-/// ```
-#[inline]
-pub fn siphash13_of_pieces(key: SipKey, pieces: &[&[u8]]) -> u64 {
-    SipHasher13::new(key).hash_with(pieces)
-}

@@ -224,15 +224,3 @@ pub type Xxh32Hasher = BlockHasher<Xxh32Rule, 16>;
 pub fn xxh32(seed: u32, bytes: &[u8]) -> u32 {
     Xxh32Hasher::hash_of(seed, bytes)
 }
-
-/// The same of a text in pieces: how it was split does not matter.
-///
-/// Proved:
-///
-/// ```text
-/// result ≡ xxh32 seed (joined pieces.now)
-/// ```
-#[inline]
-pub fn xxh32_of_pieces(seed: u32, pieces: &[&[u8]]) -> u32 {
-    Xxh32Hasher::new(seed).hash_with(pieces)
-}

@@ -255,15 +255,3 @@ pub type Xxh64Hasher = BlockHasher<Xxh64Rule, 32>;
 pub fn xxh64(seed: u64, bytes: &[u8]) -> u64 {
     Xxh64Hasher::hash_of(seed, bytes)
 }
-
-/// The same of a text in pieces: how it was split does not matter.
-///
-/// Proved:
-///
-/// ```text
-/// result ≡ xxh64 seed (joined pieces.now)
-/// ```
-#[inline]
-pub fn xxh64_of_pieces(seed: u64, pieces: &[&[u8]]) -> u64 {
-    Xxh64Hasher::new(seed).hash_with(pieces)
-}
