@@ -3,7 +3,6 @@ ghost use Rattle.std.specs.Prelude.{◌≤◌};
 
 use crate::tests::{all_hold, same, same_replies, same_reply_at};
 use hash_buckets::{Buckets, Command, NoRoom, obey_all};
-use hashers::fnv::FNV1aHasher64;
 use hashers::jenkins::spooky_hash::SpookyHasher;
 use hashers::laws::Piecewise;
 use hashers::null::NullHasher;
@@ -177,7 +176,7 @@ fn has<H: Piecewise, const N: usize>(
 #[test]
 fn refused_in_forty_commands(rt: HostRuntime) {
     let alloc = rt.alloc();
-    let mut table = match Buckets::<FNV1aHasher64, 3>::new(alloc) {
+    let mut table = match Buckets::<SpookyHasher, 3>::new(alloc) {
         Ok(table) => table,
         Err(_) => new_table(&rt, alloc),
     };

@@ -2,14 +2,13 @@
 use crate::tests::{all_hold, all_hold_at};
 use hash_bloom::Bloom;
 use hash_bloom::file::Unread;
-use hashers::null::NullHasher;
-use hashers::oz::LoseLoseHasher;
+use hashers::null::{NullHasher, PassThroughHasher};
 use std::alloc::Global;
 use std::io::{ErrorKind, Read};
 use streams::rehearsal::Script;
 
-/// The probes of the key of one byte b are 0, b, 2b + 1, 3b + 4, ..: `null` answers 0, and lose lose the sum of the bytes.
-type ByStep = Bloom<NullHasher, LoseLoseHasher>;
+/// The probes of the key of one byte b are 0, b, 2b + 1, 3b + 4, ..: `null` answers 0, and `passthrough` b.
+type ByStep = Bloom<NullHasher, PassThroughHasher>;
 
 const PAIR: &str = "null byte_sum";
 

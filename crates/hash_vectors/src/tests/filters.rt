@@ -9,8 +9,8 @@ use hash_bloom::estimate::nearest_keys;
 use hash_bloom::{Bloom, NoFilter, words};
 use hashers::fnv::FNV1aHasher64;
 use hashers::laws::Piecewise;
-use hashers::null::NullHasher;
-use hashers::oz::{DJB2Hasher, LoseLoseHasher};
+use hashers::null::{NullHasher, PassThroughHasher};
+use hashers::oz::DJB2Hasher;
 use std::alloc::{AllocError, Global};
 use std::process::Abort;
 
@@ -31,8 +31,8 @@ fn made<F: Piecewise, G: Piecewise>(
     }
 }
 
-/// The probes of the key of one byte b are 0, b, 2b + 1, 3b + 4, ..: `null` answers 0, and lose lose the sum of the bytes.
-type ByStep = Bloom<NullHasher, LoseLoseHasher>;
+/// The probes of the key of one byte b are 0, b, 2b + 1, 3b + 4, ..: `null` answers 0, and `passthrough` b.
+type ByStep = Bloom<NullHasher, PassThroughHasher>;
 
 /// The words that a program in another language made of the keys ``, `a` and `abc`.
 #[test]
@@ -90,7 +90,11 @@ fn sizes_for_shares(rt: HostRuntime) {
 }
 
 /// An insert of the key.
-fn inserts(rt: &impl Abort, alloc: Global, key: &[u8]) -> Vec<Command<NullHasher, LoseLoseHasher>>
+fn inserts(
+    rt: &impl Abort,
+    alloc: Global,
+    key: &[u8],
+) -> Vec<Command<NullHasher, PassThroughHasher>>
     ensures can_run { (filter : Filter) → All (CanRun filter) result.items }
     ensures inserts { Inserts result.items key.now }
 {
@@ -109,7 +113,7 @@ fn laws_are_calls(rt: HostRuntime) {
     let mut other: ByStep = made(&rt, alloc, 100, 4);
     other.insert(b"a");
     let both = found_in_union(&mut filter, &other, b"a");
-    let none = empty_finds_nothing::<NullHasher, LoseLoseHasher>(alloc, 100, 4, b"a");
+    let none = empty_finds_nothing::<NullHasher, PassThroughHasher>(alloc, 100, 4, b"a");
     all_hold(&rt, &[found, new, both, matches!(none, Ok(false))]);
 }
 
@@ -202,7 +206,7 @@ fn refused_for_a_filter(rt: HostRuntime) {
         Ok(filter) => filter,
         Err(AllocError) => made(&rt, alloc, 100, 7),
     };
-    let none = empty_finds_nothing::<NullHasher, LoseLoseHasher>(alloc, 100, 4, b"a");
+    let none = empty_finds_nothing::<NullHasher, PassThroughHasher>(alloc, 100, 4, b"a");
     all_hold(
         &rt,
         &[

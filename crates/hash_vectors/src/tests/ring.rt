@@ -4,6 +4,7 @@ ghost use Rattle.std.specs.Prelude.{◌≤◌, All, IfOk};
 use crate::tests::all_hold;
 use hash_ring::{Node, Refused, Ring};
 use hashers::fnv::FNV1aHasher64;
+use hashers::jenkins::spooky_hash::SpookyHasher;
 use std::alloc::{AllocError, Global};
 use std::process::Abort;
 
@@ -106,7 +107,7 @@ fn refused_nodes_come_back(rt: HostRuntime) {
     let Ok(nodes) = four_nodes(alloc, b"fir") else {
         return;
     };
-    let ring = match Ring::<FNV1aHasher64>::from_nodes(alloc, nodes) {
+    let ring = match Ring::<SpookyHasher>::from_nodes(alloc, nodes) {
         Ok(ring) => ring,
         Err(Refused::NoRoom(nodes)) => {
             all_hold(&rt, &[nodes.len() == 4]);
@@ -124,7 +125,7 @@ fn refused_nodes_come_back(rt: HostRuntime) {
 #[test]
 fn refused_names_come_back(rt: HostRuntime) {
     let alloc = rt.alloc();
-    let mut ring = Ring::<FNV1aHasher64>::new(alloc);
+    let mut ring = Ring::<SpookyHasher>::new(alloc);
     for (turn, text) in ["oak", "elm", "oak", "ash"].iter().enumerate() {
         let before = ring.len();
         let Ok(name) = Vec::from_slice(alloc, text.as_bytes()) else {
