@@ -34,7 +34,7 @@ PARTS = {
         "hash_numbers": {"hasher", "number"},
         "hash_names": {"reading", "table", "task"},
         "hash_kinds": {"reading", "table", "wide"},
-        "streams": {"failure", "tries"},
+        "streams": {"failure", "hex", "tries"},
     },
     "hashers-tools": {
         "hashof": {"line", "main", "outcome", "run"},

@@ -1,2 +1,3 @@
 pub mod Common
 pub mod NumberLemmas
+pub mod ToldLemmas

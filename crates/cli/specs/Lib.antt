@@ -2,6 +2,8 @@ pub mod Call
 pub mod Files
 pub mod Frame
 pub mod Help
+pub mod Keys
+pub mod Told
 pub mod Numbers
 pub mod Outcome
 pub mod Program

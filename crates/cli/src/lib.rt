@@ -1,5 +1,5 @@
 //! What a program of this repository needs once: the words of its call and what they ask for, how it ends and what it says then, its
-//! inputs in order, progress, and names and the words of an error for standard error.
+//! inputs in order, key files, progress, and names and the words of an error for standard error.
 #![tactic(auto)]
 
 pub mod arguments;
@@ -8,6 +8,7 @@ pub mod folder;
 pub mod frame;
 pub mod help;
 pub mod inputs;
+pub mod keys;
 pub mod numbers;
 pub mod outcome;
 pub mod program;

@@ -3,8 +3,8 @@ pub use Rattle.std.proofs.Common.{◌≡◌, ◌<◌, ◌+◌, ℕ, ◌++◌, �
 pub use Rattle.cuts_core.specs.Cut.{EndsFile, IsTorn, Opening, one, Cut, IsFileCut, given_of, is_whole, name_of}
 pub use Rattle.cuts_core.specs.Counted.{CountsChunks, CountsFile, IsCounted, CountsMore}
 pub use Rattle.cuts_core.specs.Listing.{AreListed, EndsLines, chunk_line, chunk_lines, ListsChunks, lines_of}
-pub use Rattle.hash_lines.specs.declared.line.LineKind.{LineKind}
-pub use Rattle.hashsum_core.specs.Sums.{sum_by}
+pub use Rattle.hash_lines.specs.declared.sums.Sum.{Sum}
+pub use Rattle.hash_lines.specs.Sums.{sum_by}
 pub use Rattle.std.specs.Io.Buffered.{writer_contents, writer_buffer}
 pub use Rattle.cuts_core.specs.Tally.{AreCut, all_given, bytes_of, firsts, numbers_of, tally_lines}
 pub use Rattle.std.specs.List.{concat, list_any}
@@ -18,5 +18,5 @@ pub use Rattle.streams.proofs.StreamLemmas.{part_behind, part_whole, on_err, par
 pub use Rattle.cli.specs.Files.{Opens}
 pub use Rattle.cuts_core.specs.declared.tally.Tally.{Tally}
 pub use denote.Ref.{Bor}
-pub use Rattle.hashsum_core.specs.Told.{AreTold}
-pub use Rattle.hashsum_core.proofs.ToldLemmas.{names_more, names_rest, told_next}
+pub use Rattle.cli.specs.Told.{AreTold}
+pub use Rattle.cli.proofs.ToldLemmas.{names_more, names_rest, told_next}

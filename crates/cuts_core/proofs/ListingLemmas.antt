@@ -1,9 +1,9 @@
 -- The lines of chunks, one after the other.
-use Rattle.cuts_core.proofs.Common.{◌≡◌, ℕ, ◌+◌, Bool, List, [], ◌∷◌, ◌++◌, Option, Some, None, Result, Ok, Err, length, length-append, append_assoc, append-nil, arith, ap, subst, sym, ◌∙◌, EndsFile, one, AreListed, EndsLines, chunk_line, chunk_lines, LineKind, concat, Failure, TooMany, Cutting, AppendsPart, Taken, Appends, part_behind, part_whole, Opens}
+use Rattle.cuts_core.proofs.Common.{◌≡◌, ℕ, ◌+◌, Bool, List, [], ◌∷◌, ◌++◌, Option, Some, None, Result, Ok, Err, length, length-append, append_assoc, append-nil, arith, ap, subst, sym, ◌∙◌, EndsFile, one, AreListed, EndsLines, chunk_line, chunk_lines, Sum, concat, Failure, TooMany, Cutting, AppendsPart, Taken, Appends, part_behind, part_whole, Opens}
 use Rattle.std.proofs.KnownBytes.{Appends-nil, Appends-trans}
 use Rattle.cuts_core.proofs.CutLemmas.{bytes_more}
 
-module _ (kind : LineKind) (name : List ℕ) where
+module _ (kind : Sum) (name : List ℕ) where
   -- the lines of some chunks and of more
   pub lines_more : (place : ℕ) (given more : List (List ℕ))
       → chunk_lines kind name place (given ++ more) ≡ chunk_lines kind name place given ++ chunk_lines kind name (place + length (concat given)) more
@@ -56,7 +56,7 @@ module _ (kind : LineKind) (name : List ℕ) where
   listed_torn from to w w' given (Some chunk) listed = listed
 
 -- the lines of a file, by what a sink was given that lists them
-pub ends_lines : {S : Type 0} (taken : Taken S) (kind : LineKind) (cuts : Cutting) (opens : Opens) (name : List ℕ) (old new : S) (w w' : Option (List ℕ))
+pub ends_lines : {S : Type 0} (taken : Taken S) (kind : Sum) (cuts : Cutting) (opens : Opens) (name : List ℕ) (old new : S) (w w' : Option (List ℕ))
     (to : ℕ) → taken old old [] None
     → ((given : List (List ℕ)) (refused : Option (List ℕ)) → taken old new given refused → AreListed kind name 0 to w w' given refused)
     → (result : Result Bool (Failure TooMany)) → EndsFile taken cuts (opens name) old new result → EndsLines kind cuts opens name w w' result

@@ -9,7 +9,7 @@ use Rattle.cuts_core.specs.Tally.{AreCut, all_given, bytes_of, firsts}
 use Rattle.cuts_core.specs.declared.tally.Tally.{Tally}
 use Rattle.hash_cuts.specs.Cuts.{Cutting}
 use Rattle.hash_cuts.specs.Reading.{Taken}
-use Rattle.hashsum_core.specs.Sums.{sum_by}
+use Rattle.hash_lines.specs.Sums.{sum_by}
 
 -- these are the numbers of these chunks
 pub record IsCounted (hash : List ℕ → ℕ) (given : List (List ℕ)) (tally : Tally) : Type 0 where

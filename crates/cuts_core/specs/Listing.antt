@@ -13,27 +13,27 @@ use Rattle.hash_cuts.specs.Cuts.{Cutting}
 use Rattle.hash_cuts.specs.Reading.{Taken}
 use Rattle.hash_lines.specs.Line.{line_of}
 use Rattle.hash_lines.specs.declared.line.Form.TheVariants.{Untagged}
-use Rattle.hash_lines.specs.declared.line.LineKind.{LineKind}
-use Rattle.hashsum_core.specs.Sums.{sum_by}
-use Rattle.hashsum_core.specs.Told.{AreTold}
+use Rattle.hash_lines.specs.declared.sums.Sum.{Sum}
+use Rattle.hash_lines.specs.Sums.{sum_by}
+use Rattle.cli.specs.Told.{AreTold}
 
 -- the line of a chunk: where it begins in its file, how many bytes it has, and its hash with the file's name, as lines of hashes have them
-abbrev pub chunk_line : LineKind → (name : List ℕ) (place : ℕ) (chunk : List ℕ) → List ℕ
+abbrev pub chunk_line : Sum → (name : List ℕ) (place : ℕ) (chunk : List ℕ) → List ℕ
 chunk_line kind name place chunk =
     (decimal place ++ 32 ∷ []) ++ ((decimal (length chunk) ++ 32 ∷ [])
-    ++ (line_of Untagged true kind.name.now kind.width name (sum_by kind chunk) ++ 10 ∷ []))
+    ++ (line_of Untagged true kind name (sum_by kind chunk) ++ 10 ∷ []))
 
 -- the lines of chunks that stand one behind the other, the first at this place
-abbrev pub chunk_lines : LineKind → (name : List ℕ) (place : ℕ) → List (List ℕ) → List ℕ
+abbrev pub chunk_lines : Sum → (name : List ℕ) (place : ℕ) → List (List ℕ) → List ℕ
 chunk_lines kind name place [] = []
 chunk_lines kind name place (chunk ∷ more) = chunk_line kind name place chunk ++ chunk_lines kind name (place + length chunk) more
 
 -- the lines of a file
-abbrev pub lines_of : LineKind → Cut → List ℕ
+abbrev pub lines_of : Sum → Cut → List ℕ
 lines_of kind file = chunk_lines kind (name_of file) 0 (given_of file)
 
 -- the lines of chunks from one place to another were written, and of one behind them a beginning, if one was refused
-abbrev pub AreListed : LineKind → (name : List ℕ) (from to : ℕ) (written written' : Option (List ℕ)) (given : List (List ℕ))
+abbrev pub AreListed : Sum → (name : List ℕ) (from to : ℕ) (written written' : Option (List ℕ)) (given : List (List ℕ))
     (refused : Option (List ℕ)) → Type 0
 AreListed kind name from to written written' given None =
     (to ≡ from + length (concat given)) × Appends written written' (chunk_lines kind name from given)
@@ -48,14 +48,14 @@ ListsChunks contents start now given refused = (now.kind ≡ start.kind)
 
 -- how the lines of a file end: those of its chunks were written; or of the first ones, and of one that was refused, a beginning, and where
 -- none was refused there was no memory
-abbrev pub EndsLines : LineKind → Cutting → Opens → (name : List ℕ) (written written' : Option (List ℕ)) → Result Bool (Failure TooMany) → Type 0
+abbrev pub EndsLines : Sum → Cutting → Opens → (name : List ℕ) (written written' : Option (List ℕ)) → Result Bool (Failure TooMany) → Type 0
 EndsLines kind cuts opens name written written' (Ok whole) = (given : List (List ℕ)) × IsCut cuts (opens name) given whole
     × Appends written written' (lines_of kind (name, (given, whole)))
 EndsLines kind cuts opens name written written' (Err fault) = (given : List (List ℕ)) × (refused : Option (List ℕ))
     × AreTorn cuts (opens name) given refused × IsTornBy refused fault × AppendsPart written written' (chunk_lines kind name 0 (given ++ one refused))
 
 -- the lines of the first files were written, and of the next a beginning
-pub record AreTornOff (kind : LineKind) (cuts : Cutting) (opens : Opens) (names : List (List ℕ)) (written written' : Option (List ℕ))
+pub record AreTornOff (kind : Sum) (cuts : Cutting) (opens : Opens) (names : List (List ℕ)) (written written' : Option (List ℕ))
     (fault : Failure TooMany) : Type 0 where
   pub told : List Cut
   pub between : Option (List ℕ)
@@ -67,7 +67,7 @@ pub record AreTornOff (kind : LineKind) (cuts : Cutting) (opens : Opens) (names 
   pub last : EndsLines kind cuts opens name between written' (Err fault)
 
 -- how a run over the files of these names ends: their lines were written, in their order, or a beginning of them
-abbrev pub EndsListing : LineKind → Cutting → Opens → (names : List (List ℕ)) (written written' : Option (List ℕ))
+abbrev pub EndsListing : Sum → Cutting → Opens → (names : List (List ℕ)) (written written' : Option (List ℕ))
     → Result Bool (Failure TooMany) → Type 0
 EndsListing kind cuts opens names written written' (Ok all) = (told : List Cut)
     × AreTold name_of (IsFileCut cuts opens) (lines_of kind) is_whole names told written written' all

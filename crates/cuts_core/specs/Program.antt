@@ -1,5 +1,5 @@
 -- What the program `cuts` is asked for, and how it ends.
-use Rattle.std.specs.Prelude.{ℕ, ◌≡◌, ◌⊎◌, IsSome, Bool, true, false, List, [], ◌∷◌, Option, Some, None, Result, Ok, Err, map, codes}
+use Rattle.std.specs.Prelude.{ℕ, ◌≡◌, ◌⊎◌, IsSome, Bool, true, false, List, [], ◌∷◌, Option, Some, None, Result, Ok, Err, codes}
 use Rattle.std.specs.Io.KnownBytes.{Keeps}
 use Rattle.cli.specs.Call.{Choice, Saying, flag, given, operands, taking, value_of}
 use Rattle.cli.specs.Files.{Opens, files_or}
@@ -22,10 +22,9 @@ use Rattle.cuts_core.specs.declared.sizes.Size.{Size}
 use Rattle.cuts_core.specs.declared.sizes.Size.TheVariants.{Least, Average, Most}
 use Rattle.cuts_core.specs.declared.sizes.Sizes.{Sizes}
 use Rattle.hash_cuts.specs.Cuts.{Cutting, cutting}
-use Rattle.hash_lines.specs.declared.line.LineKind.{LineKind}
-use Rattle.hashsum_core.specs.Keys.{AreKeysFor}
-use Rattle.hashsum_core.specs.declared.keys.KeyRule.TheVariants.{Any}
-use Rattle.hashsum_core.specs.Sums.{kind_of, kinds, sum_by, told_of}
+use Rattle.hash_lines.specs.declared.sums.Sum.{Sum}
+use Rattle.cli.specs.Keys.{HasKeys}
+use Rattle.hash_lines.specs.Sums.{kind_of, kinds, sum_by}
 
 -- the options
 abbrev pub options : List Choice
@@ -34,7 +33,7 @@ options = taking (Some 97) (codes "algorithm") ∷ taking (Some 108) (codes "lea
     ∷ flag None (codes "help") ∷ flag None (codes "version") ∷ []
 
 -- what is to be done by these sizes and this hash
-abbrev pub task_by : (call : List Saying) → Sizes → Option LineKind → Result Task (Wrong Misuse)
+abbrev pub task_by : (call : List Saying) → Sizes → Option Sum → Result Task (Wrong Misuse)
 task_by call sizes None = Err UnknownName
 task_by call sizes (Some kind) = Ok (record { sizes = sizes; kind = kind; stats = given (codes "stats") call })
 
@@ -43,13 +42,13 @@ abbrev pub task_unless : Option Size → Result Task (Wrong Misuse) → Result T
 task_unless None task = task
 task_unless (Some size) task = Err (Own (misuse.Fallen size))
 
-abbrev pub task_with : List LineKind → (call : List Saying) → Option Sizes → Result Task (Wrong Misuse)
-task_with kinds call None = Err (Own (misuse.NoSize (no_size call)))
-task_with kinds call (Some sizes) = task_unless (fallen sizes) (task_by call sizes (kind_of kinds (value_of (codes "algorithm") call)))
+abbrev pub task_with : (call : List Saying) → Option Sizes → Result Task (Wrong Misuse)
+task_with call None = Err (Own (misuse.NoSize (no_size call)))
+task_with call (Some sizes) = task_unless (fallen sizes) (task_by call sizes (kind_of (kinds false) (value_of (codes "algorithm") call)))
 
 -- which work a call asks for
-abbrev pub task_of : List LineKind → (call : List Saying) → Result Task (Wrong Misuse)
-task_of kinds call = task_with kinds call (sizes_of call)
+abbrev pub task_of : (call : List Saying) → Result Task (Wrong Misuse)
+task_of call = task_with call (sizes_of call)
 
 -- where the cuts are, by the keys in a key file, or by zeros
 abbrev pub cutting_of : Sizes → Option (ℕ × ℕ) → Cutting
@@ -57,16 +56,21 @@ cutting_of sizes None = cutting sizes.least sizes.average sizes.most 0 0
 cutting_of sizes (Some keys) = cutting sizes.least sizes.average sizes.most keys.0 keys.1
 
 -- how a run over the files of these names ends
-abbrev pub EndsRun : (stats : Bool) → LineKind → Cutting → Opens → (files : List (List ℕ)) (written written' : Option (List ℕ))
+abbrev pub EndsRun : (stats : Bool) → Sum → Cutting → Opens → (files : List (List ℕ)) (written written' : Option (List ℕ))
     → Result Bool (Failure TooMany) → Type 0
 EndsRun true kind cuts opens files written written' ended = EndsTally (sum_by kind) cuts opens files written written' ended
 EndsRun false kind cuts opens files written written' ended = EndsListing kind cuts opens files written written' ended
+
+-- these are the keys in a key file, if there is one
+abbrev pub AreKeysIn : Opens → (key_file : Option (List ℕ)) → (keys : Option (ℕ × ℕ)) → Type 0
+AreKeysIn opens None keys = keys ≡ None
+AreKeysIn opens (Some file) keys = (pair : ℕ × ℕ) × (keys ≡ Some pair) × HasKeys (opens file) pair
 
 -- how a task ends: as the run by the keys in its key file, or without work if that has no keys. A wrong call writes nothing
 abbrev pub EndsTask : Opens → (key_file : Option (List ℕ)) (files : List (List ℕ)) (written written' : Option (List ℕ))
     → Result Task (Wrong Misuse) → Outcome Misuse TooMany → Type 0
 EndsTask opens key_file files written written' (Ok task) result =
-    ((keys : Option (ℕ × ℕ)) × AreKeysFor Any opens key_file keys × (ended : Result Bool (Failure TooMany))
+    ((keys : Option (ℕ × ℕ)) × AreKeysIn opens key_file keys × (ended : Result Bool (Failure TooMany))
     × EndsRun task.stats task.kind (cutting_of task.sizes keys) opens files written written' ended × (result ≡ of_run ended))
     ⊎ (IsSome key_file × (result ≡ Reported) × Keeps written written')
 EndsTask opens key_file files written written' (Err wrong) result = (result ≡ Usage wrong) × Keeps written written'
@@ -74,9 +78,8 @@ EndsTask opens key_file files written written' (Err wrong) result = (result ≡ 
 -- how the program ends whose call says this
 abbrev pub EndsCall : Opens → (call : List Saying) (texts : Text → List ℕ) (written written' : Option (List ℕ))
     → Outcome Misuse TooMany → Type 0
-EndsCall opens call texts written written' = EndsRequest (request_of call) texts (λ result. (told : List LineKind) × (map told_of told ≡ kinds None)
-    × EndsTask opens (value_of (codes "key-file") call) (files_or (operands call)) written written' (task_of told call) result)
-    (Unit {0}) written written'
+EndsCall opens call texts written written' = EndsRequest (request_of call) texts
+    (EndsTask opens (value_of (codes "key-file") call) (files_or (operands call)) written written' (task_of call)) (Unit {0}) written written'
 
 -- what it says on standard error of what else is wrong with a call
 abbrev pub words_of : Misuse → List ℕ

@@ -9,8 +9,8 @@ use crate::cut::cut_file;
 use crate::failure::{Failure, TooMany};
 use cli::folder::Folder;
 use hash_cuts::{Cuts, Sink};
-use hash_lines::line::{Form, LineKind, push_line};
-use hashsum_core::sums::{default_kind, number_of_text};
+use hash_lines::line::{Form, push_line};
+use hash_lines::sums::{NO_KEYS, SUMS, Sum, number_of_text};
 use std::alloc::{AllocError, Global};
 use std::io::{BufWriter, Read, Write};
 use streams::tries::write_out;
@@ -19,7 +19,7 @@ use streams::tries::write_out;
 #[derive(Drop)]
 pub struct Lines<'a, W: Write + Drop> {
     alloc: Global,
-    kind: LineKind<'static>,
+    kind: Sum,
     name: &'a [u8],
     place: u64, // where the next chunk begins
     /// Where the lines are written.
@@ -33,7 +33,7 @@ impl<W: Write + Drop> Lines<'_, W> {
     {
         Lines {
             alloc,
-            kind: default_kind(),
+            kind: SUMS[0],
             name: b"",
             place: 0,
             w,
@@ -44,12 +44,12 @@ impl<W: Write + Drop> Lines<'_, W> {
 /// The line of a chunk, with its end.
 fn chunk_line(
     alloc: Global,
-    kind: LineKind<'static>,
+    kind: Sum,
     name: &[u8],
     place: u64,
     chunk: &[u8],
 ) -> Result<Vec<u8>, AllocError>
-    ensures { IfOk result (λ line. line.items ≡ chunk_line kind.entry name.now place chunk.now) }
+    ensures { IfOk result (λ line. line.items ≡ chunk_line kind name.now place chunk.now) }
 {
     let mut line = Vec::new(alloc);
     if write!(line, "{place} ").is_err() || write!(line, "{} ", chunk.len()).is_err() {
@@ -61,7 +61,7 @@ fn chunk_line(
         true,
         kind,
         name,
-        number_of_text(kind, chunk),
+        number_of_text(kind, NO_KEYS, chunk),
     )?;
     line.push(b'\n')?;
     Ok(line)
@@ -113,11 +113,11 @@ pub fn list_files<'a, R: Read + Drop, F: Folder<R>, W: Write + Drop>(
     alloc: Global,
     cuts: &Cuts,
     folder: &F,
-    kind: LineKind<'static>,
+    kind: Sum,
     names: &[&'a [u8]],
     lines: &mut Lines<'a, W>,
 ) -> Result<bool, Failure>
-    ensures listed { EndsListing kind.entry cuts.now (F.opens folder.now) (map (λ name. name.now) names.now)
+    ensures listed { EndsListing kind cuts.now (F.opens folder.now) (map (λ name. name.now) names.now)
         (writer_contents W.contents lines.old.w) (writer_contents W.contents lines.new.w) result }
     ensures flushed { OnOk result (writer_buffer lines.old.w ≡ [] → writer_buffer lines.new.w ≡ []) }
 {

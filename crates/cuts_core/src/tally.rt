@@ -7,15 +7,14 @@ ghost use Rattle.cuts_core.specs.Cut.{IsManyOnly};
 ghost use Rattle.cuts_core.specs.Counted.{AreTooMany, CountsChunks, CountsFile, CountsFiles, IsCounted};
 ghost use Rattle.cuts_core.specs.Tally.{EndsTally, number_line, numbers_of};
 ghost use Rattle.hash_cuts.specs.Reading.{Takes};
-ghost use Rattle.hashsum_core.specs.Sums.{sum_by};
+ghost use Rattle.hash_lines.specs.Sums.{sum_by};
 ghost use Rattle.streams.specs.declared.failure.Failure.TheVariants.{NoMemory};
 
 use crate::cut::cut_file;
 use crate::failure::{Failure, TooMany};
 use cli::folder::Folder;
 use hash_cuts::{Cuts, Sink};
-use hash_lines::line::LineKind;
-use hashsum_core::sums::number_of_text;
+use hash_lines::sums::{NO_KEYS, Sum, number_of_text};
 use std::alloc::{AllocError, Global};
 use std::collections::BTreeSet;
 use std::io::{BufWriter, Read, Write};
@@ -24,7 +23,7 @@ use streams::tries::write_out;
 /// The numbers of the chunks so far.
 #[derive(Drop)]
 pub struct Tally {
-    kind: LineKind<'static>,
+    kind: Sum,
     chunks: u64,
     bytes: u64,
     first: u64, // the bytes of the chunks whose hash no chunk before them has
@@ -33,9 +32,9 @@ pub struct Tally {
 
 impl Tally {
     /// No chunks.
-    fn new(alloc: Global, kind: LineKind<'static>) -> Tally
-        ensures counted { IsCounted (sum_by kind.entry) [] result }
-        ensures kind { result.kind ≡ kind.entry }
+    fn new(alloc: Global, kind: Sum) -> Tally
+        ensures counted { IsCounted (sum_by kind) [] result }
+        ensures kind { result.kind ≡ kind }
     {
         Tally {
             kind,
@@ -88,7 +87,7 @@ impl Sink for Tally {
         ensures err { OnErr result (Takes CountsChunks self.old self.new [] (Some chunk.now)) }
         ensures many { IfErr result (IsManyOnly (AreTooMany self.old chunk.now)) }
     {
-        let is_new = see(&mut self.hashes, number_of_text(self.kind, chunk))?;
+        let is_new = see(&mut self.hashes, number_of_text(self.kind, NO_KEYS, chunk))?;
         self.chunks = sum(self.chunks, 1)?;
         self.bytes = sum(self.bytes, chunk.len())?;
         self.first = sum(self.first, bytes_if(is_new, chunk))?;
@@ -165,11 +164,11 @@ pub fn tell_tally<R: Read + Drop, F: Folder<R>, W: Write + Drop>(
     alloc: Global,
     cuts: &Cuts,
     folder: &F,
-    kind: LineKind<'static>,
+    kind: Sum,
     names: &[&[u8]],
     w: &mut BufWriter<W>,
 ) -> Result<bool, Failure>
-    ensures told { EndsTally (sum_by kind.entry) cuts.now (F.opens folder.now) (map (λ name. name.now) names.now)
+    ensures told { EndsTally (sum_by kind) cuts.now (F.opens folder.now) (map (λ name. name.now) names.now)
         (writer_contents W.contents w.old) (writer_contents W.contents w.new) result }
     ensures flushed { OnOk result (writer_buffer w.new ≡ []) }
 {

@@ -4,8 +4,8 @@ pub use Rattle.hash_bloom.specs.Estimate.{IsExpected, IsNearest, IsWithin, Leave
 pub use Rattle.hash_bloom.specs.File.{IsStored, bytes_of, file_of, seal, title}
 unfoldable pub use Rattle.hash_bloom.specs.File.{field, header, sealed}
 pub use Rattle.hash_bloom.specs.Filter.{Adds, AllPassIn, Filter, Fits, HasAll, HasBit, IsAmong, IsCovered, IsEmpty, IsFilter, IsProbe, IsSet, LetsFewPass, Passes, best_probes, bit, bits_for_share, count_set, filter_of, place, probe_hash}
-pub use Rattle.hash_lines.proofs.HexLemmas.{hex_value-hex, length-hex}
-pub use Rattle.hash_lines.specs.Hex.{hex, hex_value}
+pub use Rattle.streams.proofs.HexLemmas.{hex_value-hex, length-hex}
+pub use Rattle.streams.specs.Hex.{hex, hex_value}
 pub use Rattle.hashers.specs.Fnv.{fnv1a64_basis, fnv1a64_from, fnv1a64_step}
 pub use Rattle.std.proofs.Common.{Bool, Err, IsTrue, List, None, Option, Some, [], ap, append_assoc, ap₂, arith, below_more, bit_or, codes, drop, get_or, get_or-set_other, inl, inr, leb, length, lit≤, max, min, pow-add, refl, rules, set, shr-shr, subst, suc, sym, take, take-append-drop, true, zero, ℕ, ⊎_elim, ◌%◌, ◌&&◌, ◌*◌, ◌++◌, ◌+◌, ◌-◌, ◌/◌, ◌<◌, ◌^◌, ◌↔◌, ◌∙◌, ◌∷◌, ◌≡◌, ◌≢◌, ◌≤◌, ◌⊎◌, append-nil}
 pub use Rattle.std.proofs.Math.Nat.{add-mod, add-mul-mod_self_right, div-mul-le_self, le_of_mul-le-mul_left, le_of_mul-le-mul_right, lt-div-mul-add, lt-mul-div-succ, lt_of_mul-lt-mul_left, mod-add-mod, mod-eq_of_lt, mul-div-le, mul-le-mul, mul-le-mul_left, mul-le-mul_right, one-le-pow, pow-le-pow_left, pow-suc, pow-zero}

@@ -4,7 +4,7 @@ use Rattle.std.specs.List.{flat_map}
 use mir.Syntax.{w64}
 use Rattle.std.specs.Int.{to_le_bytes}
 use Rattle.hashers.specs.Fnv.{fnv1a64_of}
-use Rattle.hash_lines.specs.Hex.{hex}
+use Rattle.streams.specs.Hex.{hex}
 use Rattle.hash_bloom.specs.Filter.{Filter, IsFilter}
 use Rattle.hash_bloom.specs.declared.file.Unread.{Unread}
 use Rattle.hash_bloom.specs.declared.file.Unread.TheVariants as why

@@ -12,7 +12,6 @@ ghost use Rattle.hash_bloom.specs.Filter.{Filter, filter_of};
 ghost use mir.Syntax.{w64};
 
 use crate::{Bloom, NoFilter};
-use hash_lines::hex::{MOST_DIGITS, hex_number, push_hex, put_hex};
 use hashers::fnv::FNV1aHasher64;
 use hashers::laws::Piecewise;
 use std::alloc::Global;
@@ -22,6 +21,7 @@ use std::hash::Hasher;
 use std::io::{Error, ErrorKind, Read, Write};
 use std::{fmt, io};
 use streams::failure::Failure;
+use streams::hex::{MOST_DIGITS, hex_number, push_hex, put_hex};
 use streams::tries::{TRIES, write_all};
 
 /// What the file begins with: whose it is, and its form's version.

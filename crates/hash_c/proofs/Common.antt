@@ -4,7 +4,7 @@ pub use Rattle.hash_c.specs.Columns.{AreOffsets, NoneFalls, text_at}
 pub use Rattle.hash_c.specs.Lines.{laid_over}
 pub use Rattle.hash_keyed.specs.Poly61Laws.{answer_where_stands, stands_after, stands_in_range}
 pub use Rattle.hash_keyed.specs.Poly61State.{as_word, poly_end}
-pub use Rattle.hash_kinds.specs.Named.{hash_at}
+pub use Rattle.hash_c.specs.Kinds.{hash_at}
 pub use Rattle.hash_more.specs.Crc32.{all_ones, crc_answer}
 pub use Rattle.hash_ring.specs.Points.{points_of}
 pub use Rattle.hashers.proofs.XorLemmas.{xor_twice}

@@ -1,7 +1,7 @@
 -- Many texts that lie behind one another.
 use Rattle.std.specs.Prelude.{ℕ, Bool, IsSome, IsTrue, ◌≡◌, ◌↔◌, ◌+◌, ◌<◌, ◌≤◌, List, length, slice_index, slice_range}
 use Rattle.std.specs.Bool.{OnTrue, OnFalse}
-use Rattle.hash_kinds.specs.Named.{hash_at, kind_at}
+use Rattle.hash_c.specs.Kinds.{hash_at, kind_at}
 
 -- none of so many steps from place to place falls
 abbrev pub NoneFalls : ℕ → List ℕ → Type 0

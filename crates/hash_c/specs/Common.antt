@@ -2,7 +2,8 @@
 pub use Rattle.hash_c.specs.Columns.{AreOffsets, IsColumn, IsColumnBy, NoneFalls}
 pub use Rattle.hash_c.specs.Lines.{laid_over}
 pub use Rattle.hash_c.specs.SpookyState.{AreZeros}
-pub use Rattle.hash_kinds.specs.Named.{hash_at, hash_of, kind_at, kind_named}
+pub use Rattle.hash_c.specs.Kinds.{hash_at, kind_at}
+pub use Rattle.hash_kinds.specs.Named.{hash_of, kind_named}
 pub use Rattle.hash_more.specs.Crc32.{ieee, castagnoli, bits_out, crc32_of, crc32c_of, crc_from, crc_answer}
 pub use Rattle.hash_more.specs.Djb2Add.{djb2_add_from}
 pub use Rattle.hash_more.specs.Elf.{elf_from}

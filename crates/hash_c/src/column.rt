@@ -2,7 +2,8 @@
 ghost use Rattle.std.specs.Prelude.{◌≡◌, ◌+◌, ◌<◌, ◌↔◌, ◌∷◌};
 ghost use Rattle.hash_c.specs.Common.{ℕ, List, length, map, slice_index, IsSome, IsTrue, AreOffsets, IsColumn, IsColumnBy, NoneFalls, laid_over, line_texts, hash_at, hash_of, kind_at};
 
-use hash_kinds::table::{Kind, by_kind, kind_at};
+use crate::kinds::kind_at;
+use hash_kinds::table::{Kind, by_kind};
 use hash_names::task::HashTask;
 use hashers::laws::{Piecewise, Streamed, hash_of};
 use std::marker::PhantomData;

@@ -1,19 +1,53 @@
 //! Hashes by their numbers, for callers that choose at run time: the number of a name, the name of a number, and the hash of a text.
-ghost use Rattle.std.specs.Prelude.{◌≡◌};
+ghost use Rattle.std.specs.List.{find};
+ghost use Rattle.std.specs.Prelude.{◌≡◌, ◌≤◌, Some, slice_get};
+ghost use Rattle.std.specs.Str.{bytes_eq};
 ghost use Rattle.hash_c.specs.Common.{length, laid_over, hash_at, kind_at, kind_named};
-ghost use Rattle.hash_c.specs.Kinds.{name_at};
+ghost use Rattle.hash_c.specs.Kinds.{name_at, number_of};
+ghost use Rattle.hash_kinds.specs.Named.{name_of as named};
+ghost use Rattle.hash_kinds.specs.declared.table.Kind.{Kind};
 
-use hash_kinds::table::{by_kind, kind_at, number_named};
+use hash_kinds::table::{KINDS, Kind, by_kind};
 use hash_names::task::HashTask;
 use hashers::laws::{Piecewise, Streamed, hash_of};
 use std::marker::PhantomData;
 
+/// The place of the first of that name; as many as there are where none has it.
+fn first_place(kinds: &[Kind], name: &[u8]) -> usize
+    ensures first { slice_get kinds.now result ≡ find (λ kind. bytes_eq (named kind) name.now) kinds.now }
+    ensures within { result ≤ length kinds.now }
+{
+    for (place, kind) in kinds.iter().enumerate() {
+        if kind.row().name.as_bytes() == name {
+            return place;
+        }
+    }
+    kinds.len()
+}
+
+/// A law with no code: each hash of the table has the number of its row.
+pub fn each_number_has_its_hash()
+    ensures { (kind : Kind) → kind_at (number_of kind) ≡ Some kind }
+{}
+
+/// The hash of that number.
+#[tactic(auto, unfolding(crate::specs::Kinds::kind_at))]
+pub(crate) fn kind_at(number: u32) -> Option<Kind>
+    ensures { result ≡ kind_at number }
+{
+    match KINDS.get(number as usize) {
+        Some(kind) => Some(*kind),
+        None => None,
+    }
+}
+
 /// The number of the hash of that name; where no hash has the name, a number that no hash has.
+#[tactic(auto, unfolding(hash_kinds::specs::Named::kind_named, crate::specs::Kinds::kind_at))]
 #[unsafe(no_mangle)]
 pub extern "C" fn hashers_kind(name: &[u8]) -> u32
     ensures { kind_at result ≡ kind_named name.now }
 {
-    number_named(name)
+    first_place(&KINDS, name) as u32
 }
 
 /// The name of the hash of that number.

@@ -10,8 +10,7 @@ ghost use Rattle.std.specs.List.Sorted.{IsPermutation};
 ghost use Rattle.hash_ring.specs.Ring.{AreOwners, IsOwner};
 ghost use Rattle.hash_ring.specs.Points.{ArePoints, IsBefore, IsGapAt, IsRing, IsStart, MayMerge, index_round, left_without, name_at, names_at, nodes_of, opened_up, points_of};
 
-use crate::kinds::hashers_hash;
-use hash_kinds::table::kind_at;
+use crate::kinds::{hashers_hash, kind_at};
 use hash_ring::points::{self, Point};
 
 /// Writes the points of a node, as many as there is room for, in order. The text is the node's name with 8 bytes more, which are written

@@ -1,5 +1,5 @@
 -- All hashes.
-use Rattle.std.specs.Prelude.{ℕ, Bool, true, false, List, Option, Some, None, codes, option_map, slice_get}
+use Rattle.std.specs.Prelude.{ℕ, Bool, false, List, Option, codes, option_map}
 use Rattle.std.specs.List.{find}
 use Rattle.std.specs.Str.{bytes_eq}
 use Rattle.hash_bytes.specs.Fnv.{fnv1a32_basis, fnv1a64_basis}
@@ -40,9 +40,6 @@ row_of Xxh3 = row 28 (codes "xxh3") 64 false (xxh3_64_of 0)
 
 -- end of declared
 
-abbrev pub number_of : Kind → ℕ
-number_of kind = (row_of kind).number
-
 abbrev pub name_of : Kind → List ℕ
 name_of kind = (row_of kind).name
 
@@ -55,18 +52,6 @@ shows_cuts kind = (row_of kind).cuts
 -- the hash of a text in one call
 abbrev pub hash_of : Kind → List ℕ → ℕ
 hash_of kind = (row_of kind).hash
-
--- the hash of that number, if there is one
-unfoldable pub kind_at : ℕ → Option Kind
-kind_at number = slice_get KINDS number
-
--- what it makes of a text in one call; 0 where there is none
-abbrev pub hash_of_option : Option Kind → List ℕ → ℕ
-hash_of_option (Some kind) = hash_of kind
-hash_of_option None = λ text. 0
-
-abbrev pub hash_at : ℕ → List ℕ → ℕ
-hash_at number = hash_of_option (kind_at number)
 
 -- the hash of a text that is read
 abbrev pub read_of : Kind → List ℕ → ℕ

@@ -1,4 +1,4 @@
-//! All hashes by their names and numbers: the ported ones, of `hash_names`, and the others.
+//! All hashes by their names: the ported ones, of `hash_names`, and the others.
 #![tactic(auto)]
 
 pub mod reading;

@@ -1,8 +1,8 @@
 //! The table of all hashes: that of the ported ones, and a row for each of the others; and what is done by the hash of a row.
 ghost use Rattle.std.specs.List.{find};
-ghost use Rattle.std.specs.Prelude.{◌≡◌, ◌≤◌, Some, length, slice_get};
+ghost use Rattle.std.specs.Prelude.{◌≡◌, Some};
 ghost use Rattle.std.specs.Str.{bytes_eq};
-ghost use Rattle.hash_kinds.specs.Named.{bits_of, hash_of, kind_at, kind_named, name_of, number_of, read_of, shows_cuts};
+ghost use Rattle.hash_kinds.specs.Named.{bits_of, hash_of, kind_named, name_of, read_of, shows_cuts};
 ghost use Rattle.hash_kinds.specs.declared.table.Kind.{Kind};
 
 use hash_blocks::murmur3::{Murmur3Hasher32, Murmur3Hasher128};
@@ -52,7 +52,7 @@ pub enum Kind {
     Xxh3,
 }
 
-/// The hashes in their order, by which they are numbered from 0.
+/// The hashes in their order, by which C numbers them from 0.
 pub const KINDS: [Kind; 29] = [
     // declared: kinds
     Kind::Ported(Ported::Fnv1a32),
@@ -142,47 +142,27 @@ pub fn by_kind<T: HashTask>(kind: Kind, told: T::Told, input: &mut T::Input) -> 
     }
 }
 
-/// The place of the first of that name; as many as there are where none has it.
-fn first_place(kinds: &[Kind], name: &[u8]) -> usize
-    ensures first { slice_get kinds.now result ≡ find (λ kind. bytes_eq (name_of kind) name.now) kinds.now }
-    ensures within { result ≤ length kinds.now }
+/// The first of that name.
+fn first_named(kinds: &[Kind], name: &[u8]) -> Option<Kind>
+    ensures { result ≡ find (λ kind. bytes_eq (name_of kind) name.now) kinds.now }
 {
-    for (place, kind) in kinds.iter().enumerate() {
+    for kind in kinds {
         if kind.row().name.as_bytes() == name {
-            return place;
+            return Some(*kind);
         }
     }
-    kinds.len()
+    None
 }
 
-/// The number of the hash of that name; where no hash has the name, a number that no hash has.
-#[tactic(auto, unfolding(crate::specs::Named::kind_named, crate::specs::Named::kind_at))]
-pub fn number_named(name: &[u8]) -> u32
-    ensures { kind_at result ≡ kind_named name.now }
-{
-    first_place(&KINDS, name) as u32
-}
-
-/// A law with no code: each hash of the table has the number of its row, and is found by its name.
+/// A law with no code: each hash of the table is found by its name.
 pub fn each_hash_is_found()
-    ensures by_number { (kind : Kind) → kind_at (number_of kind) ≡ Some kind }
-    ensures by_name { (kind : Kind) → kind_named (name_of kind) ≡ Some kind }
+    ensures { (kind : Kind) → kind_named (name_of kind) ≡ Some kind }
 {}
 
 /// The hash of that name.
+#[tactic(auto, unfolding(crate::specs::Named::kind_named))]
 pub fn kind_named(name: &[u8]) -> Option<Kind>
     ensures { result ≡ kind_named name.now }
 {
-    kind_at(number_named(name))
-}
-
-/// The hash of that number.
-#[tactic(auto, unfolding(crate::specs::Named::kind_at))]
-pub fn kind_at(number: u32) -> Option<Kind>
-    ensures { result ≡ kind_at number }
-{
-    match KINDS.get(number as usize) {
-        Some(kind) => Some(*kind),
-        None => None,
-    }
+    first_named(&KINDS, name)
 }

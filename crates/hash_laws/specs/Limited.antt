@@ -1,10 +1,10 @@
 -- What came of hashing all that a reader gives.
-use Rattle.std.specs.Prelude.{ℕ, ◌≡◌, ◌<◌, List, Option, Some, None, Result, Ok, Err, length, fold}
-use Rattle.std.specs.Io.KnownBytes.{Consumes, IsAtEnd, Keeps}
+use Rattle.std.specs.Prelude.{ℕ, ◌≡◌, ◌<◌, List, Option, Result, Ok, Err, length, fold}
+use Rattle.std.specs.Io.KnownBytes.{Consumes, IsAtEnd}
 use Rattle.hash_laws.specs.Reading.{cut}
 use Rattle.hash_laws.specs.Text.{IsText}
 use Rattle.hash_laws.specs.declared.reading.limited.Unhashed.{Unhashed}
-use Rattle.hash_laws.specs.declared.reading.limited.Unhashed.TheVariants.{UnknownName, ReadFault, TooLong}
+use Rattle.hash_laws.specs.declared.reading.limited.Unhashed.TheVariants.{ReadFault, TooLong}
 
 -- how many bytes are too many to be read, and those that are left to be read before and after
 pub record Reading : Type 0 where
@@ -31,7 +31,6 @@ pub record ReadsSome (reading : Reading) (count : ℕ) : Type 0 where
 -- what came of reading: what all that was left gives; or how much was read before a fault, or up to the limit
 abbrev pub Reads : {A : Type 0} (gives : List ℕ → A → Type 0) → Reading → Result A Unhashed → Type 0
 Reads gives reading (Ok it) = (text : List ℕ) × ReadsAll reading text × gives text it
-Reads gives reading (Err UnknownName) = ⊥
 Reads gives reading (Err (ReadFault fault)) = ReadsSome reading fault.bytes × (fault.bytes < reading.limit)
 Reads gives reading (Err TooLong) = ReadsSome reading reading.limit
 
@@ -42,8 +41,3 @@ Feeds piece after fresh state = Reads (λ text h. state h ≡ fold after fresh (
 -- the hash of all that was left
 abbrev pub Hashes : (hash : List ℕ → ℕ) → Reading → Result ℕ Unhashed → Type 0
 Hashes hash = Reads (λ text number. number ≡ hash text)
-
--- the same by name; where no hash has the name nothing was read
-abbrev pub HashesNamed : Option (List ℕ → ℕ) → Reading → Result ℕ Unhashed → Type 0
-HashesNamed None reading result = (result ≡ Err UnknownName) × Keeps reading.before reading.after
-HashesNamed (Some hash) reading result = Hashes hash reading result

@@ -1,5 +1,5 @@
 -- Lines in other programs' forms.
-use Rattle.hash_lines.proofs.Common.{◌≡◌, ◌≢◌, inl, inr, ℕ, Bool, true, false, All, List, [], ◌∷◌, ◌++◌, Option, Some, None, MatchOption, Vec, refl, sym, ap, ◌∙◌, subst, Global, Finds, Tells, TellsNothing, LineKind, is_sum, EndsInDigits, FindsForm, FindsOf, HasCrc, HasTag, HasWord, IsBlankForm, IsForm, IsSfvForm, IsTaggedForm, Lacks, TellsIn, TellsNoneIn, TellsSo, is_ascii_whitespace, All-head, All-tail, HashLine, Bor}
+use Rattle.hash_lines.proofs.Common.{◌≡◌, ◌≢◌, inl, inr, ℕ, Bool, true, false, All, List, [], ◌∷◌, ◌++◌, Option, Some, None, MatchOption, Vec, refl, sym, ap, ◌∙◌, subst, Global, Finds, Tells, TellsNothing, Sum, is_sum, EndsInDigits, FindsForm, FindsOf, HasCrc, HasTag, HasWord, IsBlankForm, IsForm, IsSfvForm, IsTaggedForm, Lacks, TellsIn, TellsNoneIn, TellsSo, is_ascii_whitespace, All-head, All-tail, HashLine, Bor}
 use Rattle.std.specs.Str.{IsTrimAsciiEnd, IsTrimAsciiStart}
 use Rattle.std.proofs.lemmas.Str.Ascii.{trim_ascii_end_is, trim_ascii_start_is}
 use Rattle.hash_lines.proofs.TellsLemmas.{found_as}
@@ -132,7 +132,7 @@ crc_found line no_tag no_sum None none = λ shown digits crc. none shown digits 
 crc_found line no_tag no_sum (Some parts) ends = record { ends = ends; no_tag = no_tag; no_sum = no_sum }
 
 -- what is found of the line of ours is what a line tells in a form
-pub found_in : (Form : (line plain : List ℕ) → Type 0) (kinds : List LineKind) (default : LineKind) (line : List ℕ)
+pub found_in : (Form : (line plain : List ℕ) → Type 0) (kinds : List Sum) (default : Sum) (line : List ℕ)
     → ((plain other : List ℕ) → Form line plain → Form line other → other ≡ plain) → (plain : Option (Vec ℕ Global)) → FindsForm Form line plain
     → (found : Option HashLine) → FindsOf (Finds (Tells kinds default)) plain found → Finds (TellsIn Form kinds default) line found
 found_in Form kinds default line one None none found is = rw is (λ kind name number (plain, form, tells). none plain form)
@@ -140,7 +140,7 @@ found_in Form kinds default line one (Some plain) form found tells =
     found_as (Tells kinds default) (TellsIn Form kinds default) plain.items line (λ kind name number it. (plain.items, form, it))
     (λ kind name number (other, also, it). subst (λ p. Tells kinds default kind name number p) (one plain.items other form also) it) found tells
 
-module _ (kinds : List LineKind) (default : LineKind) (line : List ℕ) where
+module _ (kinds : List Sum) (default : Sum) (line : List ℕ) where
   -- what is found last, where a line tells nothing as one of ours or as a tagged one
   pub form_found : TellsNothing kinds default line → TellsNoneIn IsTaggedForm kinds default line → (found : Option HashLine)
       → Finds (TellsIn IsBlankForm kinds default) line found → Finds (TellsIn IsForm kinds default) line found
@@ -148,7 +148,7 @@ module _ (kinds : List LineKind) (default : LineKind) (line : List ℕ) where
       found_as (TellsIn IsBlankForm kinds default) (TellsIn IsForm kinds default) line line
       (λ kind name number (plain, form, tells). (plain, inr (inr form), tells)) from
     where
-      from : (kind : LineKind) (name : List ℕ) (number : ℕ) → TellsIn IsForm kinds default kind name number line
+      from : (kind : Sum) (name : List ℕ) (number : ℕ) → TellsIn IsForm kinds default kind name number line
           → TellsIn IsBlankForm kinds default kind name number line
       from kind name number (plain, inl is, tells) = absurd (no_ours kind name number (rw (← is) at tells))
       from kind name number (plain, inr (inl form), tells) = absurd (no_tagged kind name number (plain, form, tells))
@@ -161,7 +161,7 @@ module _ (kinds : List LineKind) (default : LineKind) (line : List ℕ) where
       found_as (TellsIn IsSfvForm kinds default) (TellsSo sfv kinds default) rest line
       (λ kind name number tells. (rest, trims, inr (takes, none, tells))) from
     where
-      from : (kind : LineKind) (name : List ℕ) (number : ℕ) → TellsSo sfv kinds default kind name number line
+      from : (kind : Sum) (name : List ℕ) (number : ℕ) → TellsSo sfv kinds default kind name number line
           → TellsIn IsSfvForm kinds default kind name number rest
       from kind name number (behind, also, inl tells) =
           absurd (none kind name number (rw (start_one line behind rest also trims) at tells))

@@ -1,6 +1,5 @@
 pub mod Common
 pub mod EscapeLemmas
-pub mod HexLemmas
 pub mod LineLemmas
 pub mod ShownLemmas
 pub mod TellsLemmas

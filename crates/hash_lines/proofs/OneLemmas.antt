@@ -1,8 +1,8 @@
 -- A line shows one name and number, and so tells one thing.
-use Rattle.hash_lines.proofs.Common.{◌≡◌, ◌≢◌, ◌⊎◌, inl, inr, ℕ, ◌+◌, ◌*◌, ◌<◌, Bool, true, false, List, [], ◌∷◌, ◌++◌, Some, None, length, get_or, codes, refl, ap, sym, ◌∙◌, subst, arith, lit<, AreTags, IsTag, Tells, digits_of, name_shown, ShowsTagged, ShowsUntagged, escape, digit_value, hex_value, value_behind, LineKind, nat_tests, All-from_recursion, AllByRecursion}
+use Rattle.hash_lines.proofs.Common.{◌≡◌, ◌≢◌, ◌⊎◌, inl, inr, ℕ, ◌+◌, ◌*◌, ◌<◌, Bool, true, false, List, [], ◌∷◌, ◌++◌, Some, None, length, get_or, codes, refl, ap, sym, ◌∙◌, subst, arith, lit<, AreTags, IsTag, Tells, digits_of, name_shown, ShowsTagged, ShowsUntagged, escape, digit_value, hex_value, value_behind, Sum, nat_tests, All-from_recursion, AllByRecursion, name_in, width_in}
 use Rattle.hash_lines.specs.declared.line.Width.{Width}
 use Rattle.hash_lines.specs.declared.line.Width.TheVariants as width
-use Rattle.hash_lines.proofs.HexLemmas.{cases_Option}
+use Rattle.streams.proofs.HexLemmas.{cases_Option}
 use Rattle.hash_lines.proofs.EscapeLemmas.{first_rest, first_same, nothing_first}
 use Rattle.hash_lines.proofs.LineLemmas.{first_one, front_digits, inner_is, last_is, same_begins, tagged_shown, untagged_shown}
 use Rattle.hash_lines.proofs.ShownLemmas.{ShowsBody, ShowsLine, line_shows}
@@ -100,28 +100,28 @@ tags_one tag other count width n m shown more body is_tag also_tag (xs, shows, i
     (tag_no_space other also_tag) (is ∙ sym too)).0
 
 -- a line without its mark
-body_one : (kinds : List LineKind) (default : LineKind) → AreTags kinds default
-    → (escapes : Bool) (kind other : LineKind) (name more : List ℕ) (n m : ℕ)
+body_one : (kinds : List Sum) (default : Sum) → AreTags kinds default
+    → (escapes : Bool) (kind other : Sum) (name more : List ℕ) (n m : ℕ)
     (body : List ℕ) → ShowsBody kinds default escapes kind name n body → ShowsBody kinds default escapes other more m body
     → (kind ≡ other) × (name ≡ more) × (n ≡ m)
 body_one kinds default are escapes kind other name more n m body (inl (has, tells)) (inl (also, too)) =
     let same = are.apart kind other has also
-    (tags_one kind.name.now other.name.now (digits_of kind.width) (digits_of other.width) n m (name_shown escapes name)
+    (tags_one (name_in kind) (name_in other) (digits_of (width_in kind)) (digits_of (width_in other)) n m (name_shown escapes name)
     (name_shown escapes more) body (are.each kind has) (are.each other also) tells too) in
-    let rest = tagged_one escapes kind.name.now (digits_of kind.width) n m name more body tells
-    (subst (λ k. ShowsTagged k.name.now (digits_of k.width) (name_shown escapes more) m body) (sym same) too) in (same, rest.0, rest.1)
+    let rest = tagged_one escapes (name_in kind) (digits_of (width_in kind)) n m name more body tells
+    (subst (λ k. ShowsTagged (name_in k) (digits_of (width_in k)) (name_shown escapes more) m body) (sym same) too) in (same, rest.0, rest.1)
 body_one kinds default are escapes kind other name more n m body (inl (has, tells)) (inr (is, too)) =
-    absurd (never_both kind.name.now (digits_of kind.width) (digits_of other.width) n m (name_shown escapes name)
+    absurd (never_both (name_in kind) (digits_of (width_in kind)) (digits_of (width_in other)) n m (name_shown escapes name)
     (name_shown escapes more) body
     (are.each kind has) tells too)
 body_one kinds default are escapes kind other name more n m body (inr (is, tells)) (inl (also, too)) =
-    absurd (never_both other.name.now (digits_of other.width) (digits_of kind.width) m n (name_shown escapes more)
+    absurd (never_both (name_in other) (digits_of (width_in other)) (digits_of (width_in kind)) m n (name_shown escapes more)
     (name_shown escapes name) body
     (are.each other also) too tells)
 body_one kinds default are escapes kind other name more n m body (inr (is, tells)) (inr (also, too)) =
     let same = is ∙ sym also in
-    let rest = untagged_one escapes (digits_of kind.width) n m name more body tells
-    (subst (λ k. ShowsUntagged (digits_of k.width) (name_shown escapes more) m body) (sym same) too) in (same, rest.0, rest.1)
+    let rest = untagged_one escapes (digits_of (width_in kind)) n m name more body tells
+    (subst (λ k. ShowsUntagged (digits_of (width_in k)) (name_shown escapes more) m body) (sym same) too) in (same, rest.0, rest.1)
 
 some_digits : (width : Width) → 0 < digits_of width
 some_digits width.Eight = lit< tt
@@ -139,16 +139,16 @@ digits_first (first ∷ digits) more rest n some tell is =
     let mark : first ≡ 92 = ap (λ l. get_or l 0 0) is in
     let none : None ≡ Some n = sym (ap (λ b. hex_value (b ∷ digits)) mark) ∙ tell in cc
 
-no_backslash : (kinds : List LineKind) (default : LineKind) → AreTags kinds default → (kind : LineKind) (name : List ℕ) (n : ℕ) (rest : List ℕ)
+no_backslash : (kinds : List Sum) (default : Sum) → AreTags kinds default → (kind : Sum) (name : List ℕ) (n : ℕ) (rest : List ℕ)
     → ShowsBody kinds default false kind name n (92 ∷ rest) → ⊥
 no_backslash kinds default are kind name n rest (inl (has, (digits, shows, is))) =
-    tag_first kind.name.now (40 ∷ name ++ (codes ") = " ++ digits)) rest (are.each kind has) is
+    tag_first (name_in kind) (40 ∷ name ++ (codes ") = " ++ digits)) rest (are.each kind has) is
 no_backslash kinds default are kind name n rest (inr (default_is, untagged)) =
-    let (digits, more, long, tell, is, behind) = front_digits (digits_of kind.width) n name (92 ∷ rest) untagged in
-    digits_first digits more rest n (omega (arith, long, some_digits kind.width)) tell is
+    let (digits, more, long, tell, is, behind) = front_digits (digits_of (width_in kind)) n name (92 ∷ rest) untagged in
+    digits_first digits more rest n (omega (arith, long, some_digits (width_in kind))) tell is
 
 -- a line shows one name and number
-pub line_shows_one : (kinds : List LineKind) (default : LineKind) → AreTags kinds default → (kind other : LineKind) (name more : List ℕ) (n m : ℕ)
+pub line_shows_one : (kinds : List Sum) (default : Sum) → AreTags kinds default → (kind other : Sum) (name more : List ℕ) (n m : ℕ)
     (line : List ℕ) → ShowsLine kinds default kind name n line → ShowsLine kinds default other more m line
     → (kind ≡ other) × (name ≡ more) × (n ≡ m)
 line_shows_one kinds default are kind other name more n m line (inl tells) (inl too) =
@@ -165,7 +165,7 @@ line_shows_one kinds default are kind other name more n m line (inr (body, is, t
     (subst (λ b. ShowsBody kinds default true other more m b) same too)
 
 -- and so tells one thing
-pub line_one : (kinds : List LineKind) (default : LineKind) → AreTags kinds default → (kind other : LineKind) (name more : List ℕ) (n m : ℕ)
+pub line_one : (kinds : List Sum) (default : Sum) → AreTags kinds default → (kind other : Sum) (name more : List ℕ) (n m : ℕ)
     (line : List ℕ) → Tells kinds default kind name n line → Tells kinds default other more m line
     → (kind ≡ other) × (name ≡ more) × (n ≡ m)
 line_one kinds default are kind other name more n m line tells too =

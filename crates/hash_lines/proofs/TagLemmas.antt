@@ -1,5 +1,5 @@
 -- Kinds whose names are tags.
-use Rattle.hash_lines.proofs.Common.{◌≡◌, ◌⊎◌, inl, inr, ℕ, zero, suc, ◌||◌, not, Bool, true, false, List, [], ◌∷◌, refl, ap, sym, ◌∙◌, arith, Contains, map, subst, bytes_eq, AreTags, IsTag, are_tags, is_tag, LineKind, nat_tests, list_any}
+use Rattle.hash_lines.proofs.Common.{◌≡◌, ◌⊎◌, inl, inr, ℕ, zero, suc, ◌||◌, not, Bool, true, false, List, [], ◌∷◌, refl, ap, sym, ◌∙◌, arith, Contains, map, subst, bytes_eq, AreTags, IsTag, are_tags, is_tag, Sum, nat_tests, list_any, name_in}
 use Rattle.std.proofs.lemmas.Bool.{and_parts}
 use Rattle.std.proofs.lemmas.Slice.Eq.{bytes_eq-Decides}
 use Rattle.std.proofs.lemmas.List.Folds.{list_any_at}
@@ -25,46 +25,46 @@ first_or_later first more x (zero, below, is) = inl is
 first_or_later first more x (suc k, below, is) = inr (k, omega (arith, below), is)
 
 -- the names of kinds
-abbrev names_of : List LineKind → List (List ℕ)
-names_of kinds = map (λ (kind : LineKind). kind.name.now) kinds
+abbrev names_of : List Sum → List (List ℕ)
+names_of kinds = map name_in kinds
 
-each_tag : (kinds : List LineKind) → are_tags (names_of kinds) ≡ true → (kind : LineKind) → Contains kinds kind → IsTag kind.name.now
+each_tag : (kinds : List Sum) → are_tags (names_of kinds) ≡ true → (kind : Sum) → Contains kinds kind → IsTag (name_in kind)
 each_tag [] seen kind there = absurd (none_there kind there)
 each_tag (first ∷ more) seen kind there =
-    let parts = and_parts (is_tag first.name.now) _ seen in
-    let others = and_parts (not (list_any (bytes_eq first.name.now) (names_of more))) (are_tags (names_of more)) parts.1 in
+    let parts = and_parts (is_tag (name_in first)) _ seen in
+    let others = and_parts (not (list_any (bytes_eq (name_in first)) (names_of more))) (are_tags (names_of more)) parts.1 in
     elim (first_or_later first more kind there) [
-      | inl is ↦ subst (λ (k : LineKind). IsTag k.name.now) is (tag_seen first.name.now parts.0)
+      | inl is ↦ subst (λ (k : Sum). IsTag (name_in k)) is (tag_seen (name_in first) parts.0)
       | inr later ↦ each_tag more others.1 kind later
     ]
 
 -- the name of the first kind is no other's
-not_later : (first : LineKind) (more : List LineKind) (kind : LineKind)
-    → not (list_any (bytes_eq first.name.now) (names_of more)) ≡ true → Contains more kind
-    → first.name.now ≡ kind.name.now → ⊥
+not_later : (first : Sum) (more : List Sum) (kind : Sum)
+    → not (list_any (bytes_eq (name_in first)) (names_of more)) ≡ true → Contains more kind
+    → name_in first ≡ name_in kind → ⊥
 not_later first more kind none later same =
-    let seen : list_any (bytes_eq first.name.now) (names_of more) ≡ true =
-    any_mapped (bytes_eq first.name.now) (λ (kind : LineKind). kind.name.now) more
-    ∙ any_of (λ (other : LineKind). bytes_eq first.name.now other.name.now) more kind later
-    ((bytes_eq-Decides first.name.now kind.name.now).1 same) in
+    let seen : list_any (bytes_eq (name_in first)) (names_of more) ≡ true =
+    any_mapped (bytes_eq (name_in first)) name_in more
+    ∙ any_of (λ (other : Sum). bytes_eq (name_in first) (name_in other)) more kind later
+    ((bytes_eq-Decides (name_in first) (name_in kind)).1 same) in
     let clash : false ≡ true = sym (ap not seen) ∙ none in cc
 
-names_apart : (kinds : List LineKind) → are_tags (names_of kinds) ≡ true → (kind other : LineKind) → Contains kinds kind → Contains kinds other
-    → kind.name.now ≡ other.name.now → kind ≡ other
+names_apart : (kinds : List Sum) → are_tags (names_of kinds) ≡ true → (kind other : Sum) → Contains kinds kind → Contains kinds other
+    → name_in kind ≡ name_in other → kind ≡ other
 names_apart [] seen kind other there too same = absurd (none_there kind there)
 names_apart (first ∷ more) seen kind other there too same =
-    let parts = and_parts (is_tag first.name.now) _ seen in
-    let others = and_parts (not (list_any (bytes_eq first.name.now) (names_of more))) (are_tags (names_of more)) parts.1 in
+    let parts = and_parts (is_tag (name_in first)) _ seen in
+    let others = and_parts (not (list_any (bytes_eq (name_in first)) (names_of more))) (are_tags (names_of more)) parts.1 in
     elim (first_or_later first more kind there) [
       | inl is ↦ elim (first_or_later first more other too) [
         | inl also ↦ sym is ∙ also
-        | inr later ↦ absurd (not_later first more other others.0 later (ap (λ (k : LineKind). k.name.now) is ∙ same))
+        | inr later ↦ absurd (not_later first more other others.0 later (ap name_in is ∙ same))
       ]
       | inr later ↦ elim (first_or_later first more other too) [
-        | inl also ↦ absurd (not_later first more kind others.0 later (ap (λ (k : LineKind). k.name.now) also ∙ sym same))
+        | inl also ↦ absurd (not_later first more kind others.0 later (ap name_in also ∙ sym same))
         | inr last ↦ names_apart more others.1 kind other later last same
       ]
     ]
 
-pub tags_seen : (kinds : List LineKind) (default : LineKind) → are_tags (names_of kinds) ≡ true → AreTags kinds default
+pub tags_seen : (kinds : List Sum) (default : Sum) → are_tags (names_of kinds) ≡ true → AreTags kinds default
 tags_seen kinds default seen = record { each = each_tag kinds seen; apart = names_apart kinds seen }

@@ -3,11 +3,11 @@ use Rattle.std.specs.Prelude.{ℕ, ◌≡◌, ◌≢◌, ◌==◌, ◌<◌, ◌�
 use Rattle.std.specs.Char.{is_ascii_whitespace, to_ascii_lowercase}
 use Rattle.std.specs.List.{list_all}
 use Rattle.std.specs.Str.{IsTrimAsciiEnd, IsTrimAsciiStart}
-use Rattle.hash_lines.specs.Hex.{digit_value}
+use Rattle.streams.specs.Hex.{digit_value}
 use Rattle.std.specs.declared.alloc.Global.{Global}
 use Rattle.hash_lines.specs.Line.{tagged, untagged}
 use Rattle.hash_lines.specs.Told.{Tells}
-use Rattle.hash_lines.specs.declared.line.LineKind.{LineKind}
+use Rattle.hash_lines.specs.declared.sums.Sum.{Sum}
 use Rattle.hash_lines.specs.declared.parse.HashLine.{HashLine}
 
 -- no byte is this one
@@ -79,12 +79,12 @@ abbrev pub IsForm : (line plain : List ℕ) → Type 0
 IsForm line plain = (line ≡ plain) ⊎ IsTaggedForm line plain ⊎ IsBlankForm line plain
 
 -- a line tells this in a form: the line of ours that tells the same tells it
-abbrev pub TellsIn : (Form : (line plain : List ℕ) → Type 0) → List LineKind → (default : LineKind) → LineKind → (name : List ℕ) (number : ℕ)
+abbrev pub TellsIn : (Form : (line plain : List ℕ) → Type 0) → List Sum → (default : Sum) → Sum → (name : List ℕ) (number : ℕ)
     → List ℕ → Type 0
 TellsIn Form kinds default kind name number line = (plain : List ℕ) × Form line plain × Tells kinds default kind name number plain
 
-abbrev pub TellsNoneIn : (Form : (line plain : List ℕ) → Type 0) → List LineKind → (default : LineKind) → List ℕ → Type 0
-TellsNoneIn Form kinds default line = (other : LineKind) (name : List ℕ) (number : ℕ) → ¬ (TellsIn Form kinds default other name number line)
+abbrev pub TellsNoneIn : (Form : (line plain : List ℕ) → Type 0) → List Sum → (default : Sum) → List ℕ → Type 0
+TellsNoneIn Form kinds default line = (other : Sum) (name : List ℕ) (number : ℕ) → ¬ (TellsIn Form kinds default other name number line)
 
 -- what is found of a line of ours that tells the same in a form: it, or nothing exactly where a line is in no such form
 abbrev pub FindsForm : (Form : (line plain : List ℕ) → Type 0) → List ℕ → Option (Vec ℕ Global) → Type 0
@@ -97,11 +97,11 @@ FindsOf finds None found = found ≡ None
 FindsOf finds (Some plain) found = finds plain.items found
 
 -- what a line tells behind its first blanks: as a line of an SFV file only if it tells nothing in any other form, and such lines are taken
-abbrev pub TellsSo : (sfv : Bool) → List LineKind → (default : LineKind) → LineKind → (name : List ℕ) (number : ℕ) → List ℕ → Type 0
+abbrev pub TellsSo : (sfv : Bool) → List Sum → (default : Sum) → Sum → (name : List ℕ) (number : ℕ) → List ℕ → Type 0
 TellsSo sfv kinds default kind name number line = (rest : List ℕ) × IsTrimAsciiStart line rest
     × (TellsIn IsForm kinds default kind name number rest
     ⊎ ((sfv ≡ true) × TellsNoneIn IsForm kinds default rest × TellsIn IsSfvForm kinds default kind name number rest))
 
-abbrev pub TellsNothingSo : (sfv : Bool) → List LineKind → (default : LineKind) → List ℕ → Type 0
+abbrev pub TellsNothingSo : (sfv : Bool) → List Sum → (default : Sum) → List ℕ → Type 0
 TellsNothingSo sfv kinds default line =
-    (other : LineKind) (name : List ℕ) (number : ℕ) → ¬ (TellsSo sfv kinds default other name number line)
+    (other : Sum) (name : List ℕ) (number : ℕ) → ¬ (TellsSo sfv kinds default other name number line)

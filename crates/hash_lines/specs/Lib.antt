@@ -1,5 +1,5 @@
 pub mod Escape
-pub mod Hex
 pub mod Line
+pub mod Sums
 pub mod Told
 pub mod Forms

@@ -1,11 +1,13 @@
 -- Lines that tell the hash of a file.
 use Rattle.std.specs.Prelude.{ℕ, ◌≡◌, ◌⊎◌, ◌&&◌, if◌then◌else◌, Bool, List, [], ◌∷◌, ◌++◌, Some, length, codes}
 use Rattle.hash_lines.specs.Escape.{escape, needs_escape}
-use Rattle.hash_lines.specs.Hex.{hex, hex_value}
+use Rattle.streams.specs.Hex.{hex, hex_value}
 use Rattle.hash_lines.specs.declared.line.Form.{Form}
 use Rattle.hash_lines.specs.declared.line.Form.TheVariants as form
 use Rattle.hash_lines.specs.declared.line.Width.{Width}
 use Rattle.hash_lines.specs.declared.line.Width.TheVariants as width
+use Rattle.hash_lines.specs.declared.sums.Sum.{Sum}
+use Rattle.hash_lines.specs.Sums.{name_in, width_in}
 
 -- a name in a line, with escapes or without
 abbrev pub name_shown : Bool → List ℕ → List ℕ
@@ -37,9 +39,10 @@ digits_of width.Sixteen = 16
 digits_of width.ThirtyTwo = 32
 
 -- the line of a file's hash; with escapes only where the name needs them
-abbrev pub line_of : Form → (escapes : Bool) (tag : List ℕ) → Width → (name : List ℕ) (number : ℕ) → List ℕ
-line_of form escapes tag width name number =
-    mark (escapes && needs_escape name) ++ body form tag (name_shown (escapes && needs_escape name) name) (hex (digits_of width) number)
+abbrev pub line_of : Form → (escapes : Bool) → Sum → (name : List ℕ) (number : ℕ) → List ℕ
+line_of form escapes kind name number =
+    mark (escapes && needs_escape name)
+    ++ body form (name_in kind) (name_shown (escapes && needs_escape name) name) (hex (digits_of (width_in kind)) number)
 
 -- digits of either case, so many, of this number
 abbrev pub ShowsNumber : (count number : ℕ) → List ℕ → Type 0

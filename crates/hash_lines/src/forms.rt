@@ -2,15 +2,15 @@
 ghost use Rattle.std.specs.Prelude.{◌≡◌, ◌++◌, ◌∷◌, ℕ, List, codes, map, true, false, is_some, IfOk, MatchOption, OnOk};
 ghost use Rattle.std.specs.Char.{to_ascii_lowercase};
 ghost use Rattle.std.specs.List.{list_all};
-ghost use Rattle.hash_lines.specs.Hex.{digit_value};
+ghost use Rattle.streams.specs.Hex.{digit_value};
 ghost use Rattle.hash_lines.specs.Forms.{is_long, is_sum, unmarked, EndsInDigits, FindsForm, FindsOf, HasCrc, HasTag, HasWord, IsBlankForm, IsForm, IsSfvForm, IsTaggedForm, Lacks, TellsIn, TellsSo};
 ghost use Rattle.hash_lines.specs.Told.{Finds, Tells};
 ghost use Rattle.hash_lines.specs.Line.{tagged, untagged};
 
-use crate::hex::{MOST_DIGITS, digit_value};
-use crate::line::LineKind;
 use crate::parse::{HashLine, behind, parse_line, split_last};
+use crate::sums::Sum;
 use std::alloc::{AllocError, Global};
+use streams::hex::{MOST_DIGITS, digit_value};
 
 /// How many digits the CRC-32 of a line of an SFV file has.
 const SFV_DIGITS: usize = 8;
@@ -220,13 +220,13 @@ fn sfv_form(alloc: Global, line: &[u8]) -> Result<Option<Vec<u8>>, AllocError>
 }
 
 /// What a line of ours tells, if there is one.
-fn plain_entry<'k>(
+fn plain_entry(
     alloc: Global,
-    kinds: &[LineKind<'k>],
-    kind: LineKind<'k>,
+    kinds: &[Sum],
+    kind: Sum,
     plain: Option<Vec<u8>>,
-) -> Result<Option<HashLine<'k>>, AllocError>
-    ensures { IfOk result (FindsOf (Finds (Tells kinds.entry.now kind.entry)) plain) }
+) -> Result<Option<HashLine>, AllocError>
+    ensures { IfOk result (FindsOf (Finds (Tells kinds.now kind)) plain) }
 {
     match plain {
         Some(plain) => parse_line(alloc, kinds, kind, &plain),
@@ -235,13 +235,13 @@ fn plain_entry<'k>(
 }
 
 /// What a line without blanks in front tells, as one of ours or in another form, but for that of SFV files.
-fn form_entry<'k>(
+fn form_entry(
     alloc: Global,
-    kinds: &[LineKind<'k>],
-    kind: LineKind<'k>,
+    kinds: &[Sum],
+    kind: Sum,
     line: &[u8],
-) -> Result<Option<HashLine<'k>>, AllocError>
-    ensures { IfOk result (Finds (TellsIn IsForm kinds.entry.now kind.entry) line.now) }
+) -> Result<Option<HashLine>, AllocError>
+    ensures { IfOk result (Finds (TellsIn IsForm kinds.now kind) line.now) }
 {
     if let Some(entry) = parse_line(alloc, kinds, kind, line)? {
         return Ok(Some(entry));
@@ -256,14 +256,14 @@ fn form_entry<'k>(
 /// round the marks of a tagged line, a tag in letters of either case, or, where lines of SFV files are taken, as such a line. It is for
 /// lines of which `parse_line` finds nothing: a line of ours is never read as another program's. `None` exactly where it tells nothing in
 /// any form.
-pub fn parse_form<'k>(
+pub fn parse_form(
     alloc: Global,
-    kinds: &[LineKind<'k>],
-    kind: LineKind<'k>,
+    kinds: &[Sum],
+    kind: Sum,
     sfv: bool,
     line: &[u8],
-) -> Result<Option<HashLine<'k>>, AllocError>
-    ensures { IfOk result (Finds (TellsSo sfv kinds.entry.now kind.entry) line.now) }
+) -> Result<Option<HashLine>, AllocError>
+    ensures { IfOk result (Finds (TellsSo sfv kinds.now kind) line.now) }
 {
     let rest = line.trim_ascii_start();
     if let Some(entry) = form_entry(alloc, kinds, kind, rest)? {

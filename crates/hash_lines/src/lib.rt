@@ -1,9 +1,10 @@
-//! Lines that tell the hash of a file: how they are written, and how they are read again.
+//! Lines that tell the hash of a file: the hashes that they can tell, how they are written, and how they are read again.
 #![tactic(auto)]
 
 pub mod escape;
 pub mod forms;
-pub mod hex;
+mod keys;
 pub mod laws;
 pub mod line;
 pub mod parse;
+pub mod sums;

@@ -3,8 +3,9 @@ ghost use Rattle.std.specs.Prelude.{◌≡◌, ◌++◌, ◌≤◌, OnOk};
 ghost use Rattle.hash_lines.specs.Line.{digits_of, line_of, name_shown};
 
 use crate::escape::{needs_escape, push_escaped};
-use crate::hex::{MOST_DIGITS, push_hex};
+use crate::sums::Sum;
 use std::alloc::AllocError;
+use streams::hex::{MOST_DIGITS, push_hex};
 
 /// How many hexadecimal digits the numbers of a hash have.
 #[derive(Clone, Copy)]
@@ -29,19 +30,6 @@ impl Width {
             Width::ThirtyTwo => 32,
         }
     }
-}
-
-/// A hash that a line may tell: its name, and how many digits its numbers have.
-#[derive(Clone, Copy)]
-pub struct LineKind<'a> {
-    /// The name.
-    pub name: &'a str,
-    /// How many digits its numbers have.
-    pub width: Width,
-    /// Which hash it is, by a number of the caller's.
-    pub which: u32,
-    /// The keys of a keyed hash; zeros for any other.
-    pub keys: (u64, u64),
 }
 
 /// How a line is written.
@@ -70,12 +58,11 @@ pub fn push_line(
     text: &mut Vec<u8>,
     form: Form,
     escapes: bool,
-    kind: LineKind<'_>,
+    kind: Sum,
     name: &[u8],
     number: u128,
 ) -> Result<(), AllocError>
-    ensures { OnOk result (text.new.items ≡ text.old.items
-        ++ line_of form escapes kind.entry.name.now kind.entry.width name.now number) }
+    ensures { OnOk result (text.new.items ≡ text.old.items ++ line_of form escapes kind name.now number) }
 {
     let escapes = escapes && needs_escape(name);
     if escapes {
@@ -83,14 +70,14 @@ pub fn push_line(
     }
     match form {
         Form::Tagged => {
-            text.extend_from_slice(kind.name.as_bytes())?;
+            text.extend_from_slice(kind.name().as_bytes())?;
             text.extend_from_slice(b" (")?;
             push_name(text, escapes, name)?;
             text.extend_from_slice(b") = ")?;
-            push_hex(text, kind.width.digits(), number)
+            push_hex(text, kind.width().digits(), number)
         }
         Form::Untagged => {
-            push_hex(text, kind.width.digits(), number)?;
+            push_hex(text, kind.width().digits(), number)?;
             text.extend_from_slice(b"  ")?;
             push_name(text, escapes, name)
         }

@@ -4,15 +4,15 @@ ghost use Rattle.hash_lines.specs.Line.{ShowsNumber, ShowsTagged, ShowsUntagged}
 ghost use Rattle.hash_lines.specs.Told.{Finds, FindsShown, IsShown, Tells, TellsBody, TellsEscaped, TellsOf, TellsTagged, TellsUntagged};
 
 use crate::escape::unescaped;
-use crate::hex::{MOST_DIGITS, hex_number};
-use crate::line::LineKind;
+use crate::sums::Sum;
 use std::alloc::{AllocError, Global};
+use streams::hex::{MOST_DIGITS, hex_number};
 
 /// What a line tells.
 #[derive(Drop)]
-pub struct HashLine<'k> {
+pub struct HashLine {
     /// Which hash.
-    pub kind: LineKind<'k>,
+    pub kind: Sum,
     /// Of which file.
     pub name: Vec<u8>,
     /// What it is.
@@ -138,14 +138,14 @@ fn name_of(alloc: Global, escapes: bool, shown: &[u8]) -> Result<Option<Vec<u8>>
 }
 
 /// What these parts of a line tell.
-fn entry_of<'k>(
+fn entry_of(
     alloc: Global,
-    kind: LineKind<'k>,
+    kind: Sum,
     escapes: bool,
     shown: &[u8],
     number: u128,
-) -> Result<Option<HashLine<'k>>, AllocError>
-    ensures { IfOk result (FindsShown kind.entry number escapes shown.now) }
+) -> Result<Option<HashLine>, AllocError>
+    ensures { IfOk result (FindsShown kind number escapes shown.now) }
 {
     match name_of(alloc, escapes, shown)? {
         Some(name) => Ok(Some(HashLine { kind, name, number })),
@@ -154,44 +154,44 @@ fn entry_of<'k>(
 }
 
 /// What a tagged line of this kind tells, without its mark.
-fn tagged_entry<'k>(
+fn tagged_entry(
     alloc: Global,
-    kind: LineKind<'k>,
+    kind: Sum,
     escapes: bool,
     body: &[u8],
-) -> Result<Option<HashLine<'k>>, AllocError>
-    ensures { IfOk result (Finds (TellsOf kind.entry TellsTagged escapes) body.now) }
+) -> Result<Option<HashLine>, AllocError>
+    ensures { IfOk result (Finds (TellsOf kind TellsTagged escapes) body.now) }
 {
-    match tagged_parts(kind.name.as_bytes(), kind.width.digits(), body) {
+    match tagged_parts(kind.name().as_bytes(), kind.width().digits(), body) {
         Some((shown, number)) => entry_of(alloc, kind, escapes, shown, number),
         None => Ok(None),
     }
 }
 
 /// What an untagged line of this kind tells, without its mark.
-fn untagged_entry<'k>(
+fn untagged_entry(
     alloc: Global,
-    kind: LineKind<'k>,
+    kind: Sum,
     escapes: bool,
     body: &[u8],
-) -> Result<Option<HashLine<'k>>, AllocError>
-    ensures { IfOk result (Finds (TellsOf kind.entry TellsUntagged escapes) body.now) }
+) -> Result<Option<HashLine>, AllocError>
+    ensures { IfOk result (Finds (TellsOf kind TellsUntagged escapes) body.now) }
 {
-    match untagged_parts(kind.width.digits(), body) {
+    match untagged_parts(kind.width().digits(), body) {
         Some((shown, number)) => entry_of(alloc, kind, escapes, shown, number),
         None => Ok(None),
     }
 }
 
 /// What a line tells, without its mark.
-fn body_entry<'k>(
+fn body_entry(
     alloc: Global,
-    kinds: &[LineKind<'k>],
-    kind: LineKind<'k>,
+    kinds: &[Sum],
+    kind: Sum,
     escapes: bool,
     body: &[u8],
-) -> Result<Option<HashLine<'k>>, AllocError>
-    ensures { IfOk result (Finds (TellsBody kinds.entry.now kind.entry escapes) body.now) }
+) -> Result<Option<HashLine>, AllocError>
+    ensures { IfOk result (Finds (TellsBody kinds.now kind escapes) body.now) }
 {
     for tagged in kinds {
         if let Some(entry) = tagged_entry(alloc, *tagged, escapes, body)? {
@@ -202,13 +202,13 @@ fn body_entry<'k>(
 }
 
 /// What a line tells that begins with a backslash.
-fn escaped_entry<'k>(
+fn escaped_entry(
     alloc: Global,
-    kinds: &[LineKind<'k>],
-    kind: LineKind<'k>,
+    kinds: &[Sum],
+    kind: Sum,
     line: &[u8],
-) -> Result<Option<HashLine<'k>>, AllocError>
-    ensures { IfOk result (Finds (TellsEscaped kinds.entry.now kind.entry) line.now) }
+) -> Result<Option<HashLine>, AllocError>
+    ensures { IfOk result (Finds (TellsEscaped kinds.now kind) line.now) }
 {
     match behind(line, b"\\") {
         Some(body) => body_entry(alloc, kinds, kind, true, body),
@@ -220,13 +220,13 @@ fn escaped_entry<'k>(
 /// it is the one kind. `None` exactly where it is no such line. The digits may be of either case, and a line that is not tagged
 /// may have a star for its second space, as sha256sum writes it. A line that begins with a backslash has escapes. A line without a
 /// name is no such line.
-pub fn parse_line<'k>(
+pub fn parse_line(
     alloc: Global,
-    kinds: &[LineKind<'k>],
-    kind: LineKind<'k>,
+    kinds: &[Sum],
+    kind: Sum,
     line: &[u8],
-) -> Result<Option<HashLine<'k>>, AllocError>
-    ensures { IfOk result (Finds (Tells kinds.entry.now kind.entry) line.now) }
+) -> Result<Option<HashLine>, AllocError>
+    ensures { IfOk result (Finds (Tells kinds.now kind) line.now) }
 {
     match escaped_entry(alloc, kinds, kind, line)? {
         Some(entry) => Ok(Some(entry)),

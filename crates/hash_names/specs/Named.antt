@@ -1,5 +1,6 @@
 -- The ported hashes.
-use Rattle.std.specs.Prelude.{ℕ, Bool, true, false, List, Option, codes, fold, option_map}
+use Rattle.std.specs.Prelude.{ℕ, ◌≡◌, Bool, true, false, List, Option, Some, None, Result, Ok, Err, codes, fold, option_map}
+use Rattle.std.specs.Io.KnownBytes.{Keeps}
 use Rattle.std.specs.List.{find}
 use Rattle.std.specs.Str.{bytes_eq}
 use Rattle.hash_bytes.specs.Fnv.{fnv1a32_of, fnv1a64_of}
@@ -9,9 +10,12 @@ use Rattle.hash_fx.specs.Fx.{fx32, fx64, words32, words64}
 use Rattle.hash_jenkins.specs.Lookup3.{lookup3_from, lookup3_answer, lookup3_of}
 use Rattle.hash_jenkins.specs.Oaat.{oaat_of}
 use Rattle.hash_jenkins.specs.Spooky.{spooky, spooky_v1}
+use Rattle.hash_names.specs.declared.reading.NoHash.{NoHash}
+use Rattle.hash_names.specs.declared.reading.NoHash.TheVariants.{UnknownName, Unhashed}
 use Rattle.hash_names.specs.declared.table.Ported.{Ported}
 use Rattle.hash_names.specs.declared.table.Ported.TheVariants.{Fnv1a32, Fnv1a64, Djb2, Sdbm, LoseLose, Bricolage, Oaat, Lookup3, Spooky, SpookyV1, PassThrough, FxHash, FxHash32, FxHash64, Null}
 use Rattle.hash_names.specs.declared.table.TheConstants.{PORTED}
+use Rattle.hash_laws.specs.Limited.{Hashes, Reading}
 use Rattle.hash_laws.specs.Reading.{cut}
 use Rattle.hash_rounds.specs.Sums.{sdbm_from, loselose_from, passthrough_from}
 
@@ -67,3 +71,10 @@ ported_named name = find (is_named name) PORTED
 -- the same, as what it makes of a text that is read
 abbrev pub named : List ℕ → Option (List ℕ → ℕ)
 named name = option_map read_of (ported_named name)
+
+-- what came of hashing all that is left by the hash of a name; where no hash has the name nothing was read
+abbrev pub HashesNamed : Option (List ℕ → ℕ) → Reading → Result ℕ NoHash → Type 0
+HashesNamed None reading result = (result ≡ Err UnknownName) × Keeps reading.before reading.after
+HashesNamed (Some hash) reading (Ok number) = Hashes hash reading (Ok number)
+HashesNamed (Some hash) reading (Err UnknownName) = ⊥
+HashesNamed (Some hash) reading (Err (Unhashed why)) = Hashes hash reading (Err why)

@@ -13,7 +13,7 @@ ghost use Rattle.hash_bloom.specs.Filter.{IsEmpty};
 ghost use Rattle.hash_cuts.specs.Cuts.{HasSizes};
 ghost use Rattle.hash_keyed.specs.Poly61.{prime61};
 ghost use Rattle.hash_keyed.specs.Poly61State.{poly61};
-ghost use Rattle.hash_lines.specs.declared.line.LineKind.{LineKind};
+ghost use Rattle.hash_lines.specs.declared.sums.Sum.{Sum};
 ghost use Rattle.hashsum_core.specs.Ended.{HasEndedWell};
 ghost use Rattle.hashsum_core.specs.Passed.{HasHash, ListTells};
 ghost use Rattle.hashsum_core.specs.Program.{checking_of, taken, EndsCall};
@@ -102,9 +102,9 @@ pub fn checked_files_are_as_told<R: Read, F: Folder<R>>()
         (outcome : Outcome Misuse Nothing) → request_of call ≡ Work → given (codes "check") call ≡ true
         → EndsCall (F.opens folder) call texts written written' outcome → status_of outcome ≡ 0
         → (ended : HasEndedWell (F.opens folder) call)
-        × ((list : List ℕ) (kind : LineKind) (name : List ℕ) (number : ℕ) → Contains (files_or (operands call)) list
-        → let checking = checking_of call ended.kind in
-        ListTells (taken ended.told checking) checking (F.opens folder) list kind name number
+        × ((list : List ℕ) (kind : Sum) (name : List ℕ) (number : ℕ) → Contains (files_or (operands call)) list
+        → let checking = checking_of call ended.keys ended.kind in
+        ListTells (taken checking) checking (F.opens folder) list kind name number
         → HasHash checking (F.opens folder) kind name number) }
 {
     a_call_that_ends_well::<R, F>();

@@ -5,7 +5,8 @@ use Rattle.hashof.specs.declared.run.RunFault.{RunFault}
 use Rattle.hashof.specs.declared.run.RunFault.TheVariants.{UnknownName, ReadFault, TooLong, WriteFault}
 use Rattle.hash_names.specs.Named.{named}
 use Rattle.hash_names.specs.Limited.{Reading, ReadsAll, ReadsSome, read}
-use Rattle.hash_laws.specs.declared.reading.limited.Unhashed.{Unhashed}
+use Rattle.hash_names.specs.declared.reading.NoHash.{NoHash}
+use Rattle.hash_names.specs.declared.reading.NoHash.TheVariants as none
 use Rattle.hash_laws.specs.declared.reading.limited.Unhashed.TheVariants as unhashed
 use Rattle.streams.specs.Streams.{AppendsPart}
 use Rattle.hashof.specs.Line.{line_of}
@@ -25,10 +26,10 @@ run_of limit remaining r r' contents w w' = record {
 }
 
 -- why there is no hash, as the fault of a run
-abbrev pub fault_of : Unhashed → RunFault
-fault_of unhashed.UnknownName = UnknownName
-fault_of (unhashed.ReadFault fault) = ReadFault fault
-fault_of unhashed.TooLong = TooLong
+abbrev pub fault_of : NoHash → RunFault
+fault_of none.UnknownName = UnknownName
+fault_of (none.Unhashed (unhashed.ReadFault fault)) = ReadFault fault
+fault_of (none.Unhashed unhashed.TooLong) = TooLong
 
 -- a write or the flush failed
 abbrev pub IsOfWrite : RunFault → Type 0

@@ -4,7 +4,7 @@ ghost use Rattle.hashof.specs.Running.{Ends, fault_of, run_of};
 
 use crate::line::write_line;
 use hash_laws::reading::reader::Fault;
-use hash_names::reading::{Unhashed, hash_named};
+use hash_names::reading::{NoHash, Unhashed, hash_named};
 use std::io::{Error, Read, Write};
 
 /// Why no hash was told. The cases are tried in this order.
@@ -31,13 +31,13 @@ impl Drop for RunFault {
 }
 
 /// Why there is no hash, as the fault of a run.
-fn fault_of(unhashed: Unhashed) -> RunFault
-    ensures { result ≡ fault_of unhashed }
+fn fault_of(why: NoHash) -> RunFault
+    ensures { result ≡ fault_of why }
 {
-    match unhashed {
-        Unhashed::UnknownName => RunFault::UnknownName,
-        Unhashed::ReadFault(fault) => RunFault::ReadFault(fault),
-        Unhashed::TooLong => RunFault::TooLong,
+    match why {
+        NoHash::UnknownName => RunFault::UnknownName,
+        NoHash::Unhashed(Unhashed::ReadFault(fault)) => RunFault::ReadFault(fault),
+        NoHash::Unhashed(Unhashed::TooLong) => RunFault::TooLong,
     }
 }
 
@@ -60,7 +60,7 @@ pub fn run_limited<R: Read, W: Write>(
 {
     match hash_named(name, limit, r) {
         Ok(hash) => write_line(w, hash),
-        Err(unhashed) => Err(fault_of(unhashed)),
+        Err(why) => Err(fault_of(why)),
     }
 }
 

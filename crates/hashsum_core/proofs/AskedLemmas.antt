@@ -1,67 +1,52 @@
 -- The hash that a call asks for.
-use Rattle.hashsum_core.proofs.Common.{◌≡◌, inl, inr, ℕ, zero, suc, Bool, true, false, if◌then◌else◌, List, [], ◌∷◌, map, fold, codes, Option, Some, None, IsSome, Contains, refl, sym, ap, ◌∙◌, subst, arith, option_map, bytes_eq, to_ascii_lowercase, false≢true, or_left, or_right, bytes_decides, LineKind, Tells, Saying, given, value_after, value_of, Opens, is_named, kind_of, kinds, poly61_at_both, siphash24_at, sum_at, sum_by, sum_of, told_at, told_of, Told, find, ◌+◌, TellsAny, asked, asks_for, asks_for_keyed, asks_for_poly61, asks_for_siphash24, is_by_name, key_file, key_rule, kinds_under, misuse_of, UNKEYED, GivesKeys, HasEndedWell, AreKeysFor, ArePoly61Keys, MayBeKeys}
+use Rattle.hashsum_core.proofs.Common.{if◌then◌else◌, ◌≡◌, inl, inr, ℕ, zero, suc, Bool, true, false, List, [], ◌∷◌, map, fold, codes, Option, Some, None, IsSome, Contains, refl, sym, ap, ◌∙◌, subst, arith, to_ascii_lowercase, false≢true, or_left, or_right, bytes_decides, Sum, Tells, Saying, given, value_after, value_of, Opens, is_named, kind_of, kinds, poly61_at_both, siphash24_at, sum_of, find, TellsAny, asked, asks_for, asks_for_keyed, asks_for_poly61, asks_for_siphash24, is_by_name, key_file, key_rule, misuse_of, GivesKeys, HasEndedWell, AreKeysFor, ArePoly61Keys, MayBeKeys, sum_under, name_in}
 use Rattle.cli.specs.Call.Saying.{Gives, Operand, Errs}
 use Rattle.hashsum_core.specs.declared.keys.KeyRule.{KeyRule}
 use Rattle.hashsum_core.specs.declared.keys.KeyRule.TheVariants.{Any, Poly61}
-use Rattle.hashsum_core.proofs.NameLemmas.{found_as_told}
+use Rattle.hash_lines.specs.declared.sums.Sum.TheVariants as sum
+use Rattle.hashsum_core.proofs.NameLemmas.{found_alike, some_same}
 
 -- one thing alone is there
-pub only_one : (kind other : LineKind) → Contains (kind ∷ []) other → other ≡ kind
+pub only_one : (kind other : Sum) → Contains (kind ∷ []) other → other ≡ kind
 only_one kind other (zero, below, is) = sym is
 only_one kind other (suc k, below, is) = absurd (omega (arith, below))
 
 -- a line of the one hash that is taken tells that
-line_one : (kind other : LineKind) (name : List ℕ) (number : ℕ) (line : List ℕ) → Tells (kind ∷ []) kind other name number line → other ≡ kind
+line_one : (kind other : Sum) (name : List ℕ) (number : ℕ) (line : List ℕ) → Tells (kind ∷ []) kind other name number line → other ≡ kind
 line_one kind other name number line (inl (inl (here, tells))) = only_one kind other here
 line_one kind other name number line (inl (inr (is, tells))) = is
 line_one kind other name number line (inr (body, begins, inl (here, tells))) = only_one kind other here
 line_one kind other name number line (inr (body, begins, inr (is, tells))) = is
 
-pub any_one : (sfv : Bool) (kind other : LineKind) (name : List ℕ) (number : ℕ) (line : List ℕ)
+pub any_one : (sfv : Bool) (kind other : Sum) (name : List ℕ) (number : ℕ) (line : List ℕ)
     → TellsAny sfv (kind ∷ []) kind other name number line → other ≡ kind
 any_one sfv kind other name number line (inl tells) = line_one kind other name number line tells
 any_one sfv kind other name number line (inr (none, (rest, trims, inl (plain, form, tells)))) = line_one kind other name number plain tells
 any_one sfv kind other name number line (inr (none, (rest, trims, inr (takes, nothing, (plain, form, tells))))) =
     line_one kind other name number plain tells
 
-kind_of_named : (kinds : List LineKind) (name : List ℕ) → kind_of kinds (Some name) ≡ find (λ kind. is_named name kind.name.now) kinds
-kind_of_named [] name = refl
-kind_of_named (kind ∷ kinds) name = refl
-
 -- by computing
-poly61_found : (keys : ℕ × ℕ) → find (λ told. is_named (codes "poly61") told.name) (kinds (Some keys)) ≡ Some (told_at keys UNKEYED)
-unfolding sum_at
-poly61_found keys = refl
+poly61_found : find (λ kind. is_named (codes "poly61") (name_in kind)) (kinds true) ≡ Some sum.Poly61
+unfolding kinds
+poly61_found = refl
 
-siphash24_found : (keys : ℕ × ℕ) → find (λ told. is_named (codes "siphash24") told.name) (kinds (Some keys)) ≡ Some (told_at keys (UNKEYED + 1))
-unfolding sum_at
-siphash24_found keys = refl
+siphash24_found : find (λ kind. is_named (codes "siphash24") (name_in kind)) (kinds true) ≡ Some sum.SipHash24
+unfolding kinds
+siphash24_found = refl
 
--- a call that asks for a name under which a place is found
-module _ (opens : Opens) (call : List Saying) (name : List ℕ) (which : ℕ)
-    (found : (keys : ℕ × ℕ) → find (λ told. is_named name told.name) (kinds (Some keys)) ≡ Some (told_at keys which)) where
-  found_under : (keys : Option (ℕ × ℕ)) (pair : ℕ × ℕ) → keys ≡ Some pair
-      → find (λ told. is_named name told.name) (kinds_under keys) ≡ Some (told_at pair which)
-  found_under (Some keys) pair is = let same : keys ≡ pair = cc in found keys ∙ ap (λ k. Some (told_at k which)) same
-  found_under None pair is = cc
-
+-- a call that asks for a name under which a hash is found
+module _ (opens : Opens) (call : List Saying) (name : List ℕ) (it : Sum)
+    (found : find (λ kind. is_named name (name_in kind)) (kinds true) ≡ Some it) where
   named_so : (word : Option (List ℕ)) → asked call ≡ word → is_by_name name word ≡ true → (ended : HasEndedWell opens call)
-      → (keys : ℕ × ℕ) → ended.keys ≡ Some keys → told_of ended.kind ≡ told_at keys which
-  named_so None is asks ended keys are = let clash : false ≡ true = asks in cc
-  named_so (Some word) is asks ended keys are =
-      let same : map to_ascii_lowercase name ≡ map to_ascii_lowercase word =
-      (bytes_decides (map to_ascii_lowercase name) (map to_ascii_lowercase word)).0 asks in
-      let known : find (λ kind. is_named word kind.name.now) ended.told ≡ Some ended.kind =
-      sym (kind_of_named ended.told word) ∙ ap (kind_of ended.told) (sym is) ∙ ended.is_asked in
-      let some : Some (told_of ended.kind) ≡ Some (told_at keys which) =
-      sym (ap (option_map told_of) known) ∙ found_as_told word ended.told ∙ ap (find (λ told. is_named word told.name)) ended.are_told
-      ∙ ap (λ n. find (λ (told : Told). bytes_eq (map to_ascii_lowercase told.name) n) (kinds_under ended.keys)) (sym same)
-      ∙ found_under ended.keys keys are in
-      cc
+      → ended.kind ≡ it
+  named_so None is asks ended = let clash : false ≡ true = asks in cc
+  named_so (Some word) is asks ended =
+      some_same (sym ended.is_asked ∙ ap (kind_of (kinds true)) is ∙ found_alike (kinds true) name word asks ∙ found)
 
   sum_is : asks_for name call ≡ true → (ended : HasEndedWell opens call) → (keys : ℕ × ℕ) → ended.keys ≡ Some keys
-      → sum_by ended.kind ≡ sum_of keys (sum_at which)
-  sum_is asks ended keys are = ap (λ (t : Told). sum_of t.keys (sum_at t.which)) (named_so (asked call) refl asks ended keys are)
+      → sum_under ended.keys ended.kind ≡ sum_of keys it
+  sum_is asks ended keys are =
+      ap (λ k. sum_under k ended.kind) are ∙ ap (λ kind. sum_of keys kind) (named_so (asked call) refl asks ended)
 
 -- ---- the keys of a call
 
@@ -106,17 +91,15 @@ not_both call asks = at (asked call) asks
     at (Some word) is = rw (← (bytes_decides (map to_ascii_lowercase (codes "poly61")) (map to_ascii_lowercase word)).0 is)
 
 pub under_poly61 : (opens : Opens) (call : List Saying) → asks_for_poly61 call ≡ true → (ended : HasEndedWell opens call)
-    → (keys : ℕ × ℕ) × GivesKeys opens call keys × ArePoly61Keys keys × (sum_by ended.kind ≡ poly61_at_both keys)
-unfolding sum_at
+    → (keys : ℕ × ℕ) × GivesKeys opens call keys × ArePoly61Keys keys × (sum_under ended.keys ended.kind ≡ poly61_at_both keys)
 under_poly61 opens call asks ended =
     let (keys, are, gives, fit) = keys_given opens call Poly61 ended.no_misuse (or_left _ _ asks) ended.keys
     (subst (λ (b : Bool). AreKeysFor (if b then Any else Poly61) opens (key_file call) ended.keys) (not_both call asks) ended.are_keys) in
-    (keys, gives, fit, sum_is opens call (codes "poly61") UNKEYED poly61_found asks ended keys are)
+    (keys, gives, fit, sum_is opens call (codes "poly61") sum.Poly61 poly61_found asks ended keys are)
 
 pub under_siphash24 : (opens : Opens) (call : List Saying) → asks_for_siphash24 call ≡ true → (ended : HasEndedWell opens call)
-    → (keys : ℕ × ℕ) × GivesKeys opens call keys × (sum_by ended.kind ≡ siphash24_at keys)
-unfolding sum_at
+    → (keys : ℕ × ℕ) × GivesKeys opens call keys × (sum_under ended.keys ended.kind ≡ siphash24_at keys)
 under_siphash24 opens call asks ended =
     let (keys, are, gives, any) = keys_given opens call (key_rule call) ended.no_misuse (or_right _ _ asks)
     ended.keys ended.are_keys in
-    (keys, gives, sum_is opens call (codes "siphash24") (UNKEYED + 1) siphash24_found asks ended keys are)
+    (keys, gives, sum_is opens call (codes "siphash24") sum.SipHash24 siphash24_found asks ended keys are)

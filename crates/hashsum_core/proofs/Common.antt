@@ -24,7 +24,6 @@ pub use Rattle.hash_kinds.specs.declared.table.Kind.{Kind}
 pub use Rattle.hash_kinds.specs.declared.table.Kind.TheVariants.{Ported, Murmur3At32, Xxh32, Crc32, Crc32c, Djb2Add, Fnv1At32, Fnv1At64, Joaat, Elf, Xxh64, Murmur3, SipHash13, SipHash24, Xxh3}
 pub use Rattle.hash_lines.specs.Line.{digits_of}
 pub use Rattle.hash_lines.specs.Told.{Tells, AreTags, IsTag, are_tags}
-pub use Rattle.hash_lines.specs.declared.line.LineKind.{LineKind}
 pub use Rattle.hash_names.specs.declared.table.Ported.TheVariants.{Fnv1a32, Bricolage, Djb2, Fnv1a64, LoseLose, Oaat, Sdbm, FxHash, FxHash32, FxHash64, Lookup3, Spooky, SpookyV1, PassThrough, Null}
 pub use Rattle.hashers.specs.DifferWithin.{DifferAtOnePlace, DifferWithin}
 pub use Rattle.hashers.specs.Text.{texts}
@@ -35,20 +34,19 @@ pub use Rattle.streams.specs.declared.failure.Failure.TheVariants.{Unwritten, No
 pub use Rattle.streams.specs.declared.failure.Nothing.{Nothing}
 pub use Rattle.text_set.specs.Lines.{lines_by, ReadsNext}
 pub use lib.Pointwise.{bytes_decides}
-unfoldable pub use Rattle.hashsum_core.specs.Sums.{sum_at, number_named}
-pub use Rattle.hashsum_core.specs.Sums.{is_named, kind_of, kinds, poly61_at_both, siphash24_at, sum_by, sum_of, told_at, told_of, Told, width_in, name_in, takes_keys, wide_name, wide_of, width_of}
+unfoldable pub use Rattle.hash_lines.specs.Sums.{kinds, number_named}
+pub use Rattle.hash_lines.specs.Sums.{is_named, kind_of, poly61_at_both, siphash24_at, sum_of, width_in, name_in, takes_keys, wide_name, wide_of, width_of}
 pub use Rattle.hashsum_core.specs.Checking.{TellsAny, IsVerdict, is_not_found, counted, passes, is_itself, is_skipped, takes_sfv, verdict_on, IsLineCheck}
 pub use Rattle.hashsum_core.specs.Lists.{counts_of, said_of, uncounted, AreFirstLines, AreLines, EndsLine, EndsList, IsLineCheckOf, AreListed, EndsListOf, EndsLists, bare}
-pub use Rattle.hashsum_core.specs.Program.{asked, asks_for, asks_for_keyed, asks_for_poly61, asks_for_siphash24, is_by_name, key_file, key_rule, kinds_under, misuse_of, checking_of, summing_of, taken, work_by, work_of, EndsCall, EndsTask, EndsUnless}
+pub use Rattle.hashsum_core.specs.Program.{asked, asks_for, asks_for_keyed, asks_for_poly61, asks_for_siphash24, is_by_name, key_file, key_rule, misuse_of, checking_of, summing_of, taken, work_by, work_of, EndsCall, EndsTask, EndsUnless}
 pub use Rattle.hashsum_core.specs.declared.check.Checking.{Checking}
 pub use Rattle.hashsum_core.specs.Passed.{fails, is_same, HasPassed, HasHash, LineTells, ListTells}
-pub use Rattle.hashsum_core.specs.declared.sums.TheConstants.{UNKEYED, SUMS}
 pub use Rattle.hash_laws.specs.Text.{IsText}
-pub use Rattle.hashsum_core.specs.Files.{ReadsFile, SumsFile}
+pub use Rattle.hashsum_core.specs.Files.{ReadsFile, SumsFile, sum_under}
 pub use Rattle.hashsum_core.specs.Laws.{HoldsOnly, NeverPasses, DifferAtOneWord}
 pub use Rattle.hashsum_core.specs.declared.check.LineCheck.{LineCheck}
-pub use Rattle.hashsum_core.specs.Told.{AreTold, AreTornOff}
-pub use Rattle.hashsum_core.specs.declared.sums.Sum.{Sum}
+pub use Rattle.cli.specs.Told.{AreTold, AreTornOff}
+pub use Rattle.hash_lines.specs.declared.sums.Sum.{Sum}
 pub use Rattle.hashsum_core.specs.Ended.{GivesKeys, HasEndedWell}
 pub use Rattle.hashsum_core.specs.Keys.{AreKeysFor, ArePoly61Keys, MayBeKeys}
 pub use Rattle.hashsum_core.specs.declared.check.Verdict.TheVariants.{Same, Different, Unread, Missing}
@@ -57,6 +55,5 @@ unfoldable pub use Rattle.hash_kinds.specs.Named.{kind_named}
 pub use Rattle.hashsum_core.specs.declared.check.Counts.{Counts}
 pub use Rattle.hashsum_core.specs.Lists.AreListed.{next_list, no_list}
 pub use denote.Ref.{Bor}
-pub use Rattle.hashsum_core.specs.declared.sums.Wide.{Wide}
+pub use Rattle.hash_lines.specs.declared.sums.Wide.{Wide}
 pub use Rattle.hashsum_core.specs.Summing.{IsSummed, line_told}
-pub use Rattle.hashers.specs.Reading.{cut}

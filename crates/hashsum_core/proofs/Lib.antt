@@ -8,4 +8,3 @@ pub mod NameLemmas
 pub mod PassLemmas
 pub mod StatusLemmas
 pub mod TellsLemmas
-pub mod ToldLemmas

@@ -1,7 +1,7 @@
 -- Lists whose lines are checked.
-use Rattle.hashsum_core.proofs.Common.{◌≡◌, inl, inr, ℕ, true, List, [], ◌∷◌, ◌++◌, length, Option, Some, None, Ok, Err, refl, ap, sym, ◌∙◌, subst, arith, Keeps-refl, nat_tests, fold-append, IsAtEnd, LineKind, Failure, Nothing, Opens, lines_by, ReadsNext, append_assoc, append-nil, counted, counts_of, said_of, uncounted, AreFirstLines, AreLines, EndsLine, EndsList, IsLineCheckOf, Checking, LineCheck, AreTold, Counts}
+use Rattle.hashsum_core.proofs.Common.{◌≡◌, inl, inr, ℕ, true, List, [], ◌∷◌, ◌++◌, length, Option, Some, None, Ok, Err, refl, ap, sym, ◌∙◌, subst, arith, Keeps-refl, nat_tests, fold-append, IsAtEnd, Sum, Failure, Nothing, Opens, lines_by, ReadsNext, append_assoc, append-nil, counted, counts_of, said_of, uncounted, AreFirstLines, AreLines, EndsLine, EndsList, IsLineCheckOf, Checking, LineCheck, AreTold, Counts}
 use Rattle.std.specs.Io.BufRead.{drop_through, take_through}
-use Rattle.hashsum_core.proofs.ToldLemmas.{told_next, told_start, torn_kept, torn_within}
+use Rattle.cli.proofs.ToldLemmas.{told_next, told_start, torn_kept, torn_within}
 
 -- the first line of a text, and the lines of the rest
 next_first : (byte : ℕ) (text : List ℕ)
@@ -38,20 +38,20 @@ all_lines (Some text) (Some bytes) lines (rest, is, are) end =
     sym (append-nil lines) ∙ ap (λ t. lines ++ lines_by 10 t) (sym none) ∙ are
 
 -- what came of the first lines is written and counted
-abbrev pub SoFar : List LineKind → Checking → Opens → (list : List ℕ) (left left' written written' : Option (List ℕ))
+abbrev pub SoFar : List Sum → Checking → Opens → (list : List ℕ) (left left' written written' : Option (List ℕ))
     → Counts → Type 0
 SoFar kinds checking opens list left left' written written' counts =
     (ls : List (List ℕ)) × AreFirstLines left ls left' × (told : List (List ℕ × LineCheck))
     × AreTold (λ line. line.0) (IsLineCheckOf kinds checking opens list) (said_of checking) (λ line. true) ls told written written' true
     × (counts ≡ counts_of told)
 
-pub so_far_start : (kinds : List LineKind) (checking : Checking) (opens : Opens) (list : List ℕ) (left written : Option (List ℕ))
+pub so_far_start : (kinds : List Sum) (checking : Checking) (opens : Opens) (list : List ℕ) (left written : Option (List ℕ))
     → SoFar kinds checking opens list left left written written uncounted
 so_far_start kinds checking opens list left written =
     ([], no_lines left, [], told_start (λ line. line.0) (IsLineCheckOf kinds checking opens list) (said_of checking) (λ line. true) written, refl)
 
 -- one line more
-pub so_far_more : (kinds : List LineKind) (checking : Checking) (opens : Opens) (list : List ℕ)
+pub so_far_more : (kinds : List Sum) (checking : Checking) (opens : Opens) (list : List ℕ)
     (left here left' written between written' : Option (List ℕ)) (counts counts' : Counts) (line given : List ℕ) (came : LineCheck)
     → SoFar kinds checking opens list left here written between counts → ReadsNext 10 here left' line → given ≡ line
     → EndsLine kinds checking opens list given between written' (Ok came) → counts' ≡ counted counts came
@@ -68,7 +68,7 @@ so_far_more kinds checking opens list left here left' written between written' c
     )
 
 -- a line of which a beginning of what came was written
-pub torn_off : (kinds : List LineKind) (checking : Checking) (opens : Opens) (list : List ℕ)
+pub torn_off : (kinds : List Sum) (checking : Checking) (opens : Opens) (list : List ℕ)
     (left here left' written between written' : Option (List ℕ)) (counts : Counts) (line given : List ℕ) (fault : Failure Nothing)
     → SoFar kinds checking opens list left here written between counts → ReadsNext 10 here left' line → given ≡ line
     → EndsLine kinds checking opens list given between written' (Err fault)
@@ -92,7 +92,7 @@ torn_off kinds checking opens list left here left' written between written' coun
     )
 
 -- nothing is read or written
-pub list_torn_off : (kinds : List LineKind) (checking : Checking) (opens : Opens) (list : List ℕ) (left written : Option (List ℕ))
+pub list_torn_off : (kinds : List Sum) (checking : Checking) (opens : Opens) (list : List ℕ) (left written : Option (List ℕ))
     (fault : Failure Nothing) → EndsList kinds checking opens list left written written (Err fault)
 list_torn_off kinds checking opens list left written fault = (
   [],
@@ -103,7 +103,7 @@ list_torn_off kinds checking opens list left written fault = (
 )
 
 -- the whole list, where nothing is left
-pub list_ended : (kinds : List LineKind) (checking : Checking) (opens : Opens) (list : List ℕ) (left here written written' : Option (List ℕ))
+pub list_ended : (kinds : List Sum) (checking : Checking) (opens : Opens) (list : List ℕ) (left here written written' : Option (List ℕ))
     (counts : Counts) → SoFar kinds checking opens list left here written written' counts → IsAtEnd here
     → EndsList kinds checking opens list left written written' (Ok (Some counts))
 list_ended kinds checking opens list left here written written' counts (ls, are, told, so_far, counts_are) end =

@@ -1,5 +1,5 @@
 -- Lists that pass.
-use Rattle.hashsum_core.proofs.Common.{◌≡◌, inl, inr, ◌⊎◌, ℕ, ◌<◌, suc, zero-lt-suc, arith, Bool, true, false, ◌&&◌, nat_lt, List, [], ◌∷◌, length, Option, Ok, All, refl, sym, ap, ◌∙◌, subst, fold, Any, nat_tests, and_parts, All-cons, All-nil, All-push, LineKind, Opens, counted, passes, counts_of, uncounted, AreLines, AreListed, EndsListOf, Checking, fails, is_same, HasPassed, LineCheck, Counts, next_list, no_list}
+use Rattle.hashsum_core.proofs.Common.{◌≡◌, inl, inr, ◌⊎◌, ℕ, ◌<◌, suc, zero-lt-suc, arith, Bool, true, false, ◌&&◌, nat_lt, List, [], ◌∷◌, length, Option, Ok, All, refl, sym, ap, ◌∙◌, subst, fold, Any, nat_tests, and_parts, All-cons, All-nil, All-push, Sum, Opens, counted, passes, counts_of, uncounted, AreLines, AreListed, EndsListOf, Checking, fails, is_same, HasPassed, LineCheck, Counts, next_list, no_list}
 
 -- the counts behind others
 abbrev after : Counts → List (List ℕ × LineCheck) → Counts
@@ -50,7 +50,7 @@ lines_pass strict lines is =
       ],
     )
 
-module _ (kinds : List LineKind) (checking : Checking) (opens : Opens) where
+module _ (kinds : List Sum) (checking : Checking) (opens : Opens) where
   list_passed : (list : List ℕ) (w w' : Option (List ℕ)) → EndsListOf kinds checking opens list w w' (Ok true)
       → HasPassed kinds checking opens list
   list_passed list w w' (inl (held, can, inl (counts, (lines, are, told, are_told, counts_are), is))) =

@@ -1,11 +1,12 @@
 -- Checks that end well.
-use Rattle.hashsum_core.proofs.Common.{◌≡◌, inl, inr, ℕ, arith, true, false, Bool, if◌then◌else◌, List, map, codes, Option, Some, None, Result, Ok, Err, All, refl, sym, ap, ◌∙◌, subst, error_kind, LineKind, Failure, Unwritten, Nothing, Opens, files_or, given, operands, Saying, kind_of, told_of, EndsLists, asked, checking_of, key_file, key_rule, kinds_under, misuse_of, summing_of, taken, work_by, work_of, EndsCall, EndsTask, EndsUnless, Checking, HasPassed, HasEndedWell, AreKeysFor}
+use Rattle.hashsum_core.proofs.Common.{◌≡◌, inl, inr, ℕ, arith, true, false, Bool, if◌then◌else◌, List, codes, Option, Some, None, Result, Ok, Err, All, refl, sym, ap, ◌∙◌, subst, error_kind, Sum, Failure, Unwritten, Nothing, Opens, files_or, given, operands, Saying, kind_of, EndsLists, asked, checking_of, key_file, key_rule, misuse_of, summing_of, taken, work_by, work_of, EndsCall, EndsTask, EndsUnless, Checking, HasPassed, HasEndedWell, AreKeysFor, kinds}
 use Rattle.std.specs.declared.io.ErrorKind.{ErrorKind}
 use Rattle.cli.specs.Outcome.{of_run, status_of, write_status}
 use Rattle.cli.specs.declared.outcome.Outcome.{Outcome}
 use Rattle.hashsum_core.proofs.PassLemmas.{lists_passed}
 use Rattle.hashsum_core.specs.declared.outcome.Misuse.{Misuse}
-use Rattle.hashsum_core.specs.declared.outcome.Task.TheVariants.{Check, Sum}
+use Rattle.hashsum_core.specs.declared.outcome.Task.TheVariants.{Check}
+use Rattle.hashsum_core.specs.declared.outcome.Task.TheVariants as task
 use Rattle.cli.specs.Frame.{request_of, EndsRequest}
 use Rattle.cli.specs.declared.frame.Request.TheVariants.{Work}
 use Rattle.cli.specs.declared.frame.Text.{Text}
@@ -13,7 +14,7 @@ use Rattle.cli.specs.declared.outcome.Outcome.TheVariants.{Usage}
 use Rattle.cli.specs.declared.outcome.Wrong.{Wrong}
 use Rattle.cli.specs.declared.outcome.Wrong.TheVariants.{Own, UnknownName}
 
-module _ (kinds : List LineKind) (checking : Checking) (opens : Opens) where
+module _ (checking : Checking) (opens : Opens) where
   -- a write that fails does not end well
   fails_badly : (kind : ErrorKind) → write_status kind ≡ 0 → ⊥
   fails_badly kind is = grind (arith, is)
@@ -26,12 +27,12 @@ module _ (kinds : List LineKind) (checking : Checking) (opens : Opens) where
   ends_well (Err fault) is = absurd (omega arith)
 
   pub check_passed : (lists : List (List ℕ)) (w w' : Option (List ℕ)) (outcome : Outcome Misuse Nothing)
-      → EndsTask kinds opens lists w w' (Ok (Check checking)) outcome → status_of outcome ≡ 0
-      → All (HasPassed (taken kinds checking) checking opens) lists
+      → EndsTask opens lists w w' (Ok (Check checking)) outcome → status_of outcome ≡ 0
+      → All (HasPassed (taken checking) checking opens) lists
   check_passed lists w w' outcome (ended, ends, is) zero =
       let well : ended ≡ Ok true = ends_well ended (sym (ap (λ o. status_of o) is) ∙ zero) in
-      lists_passed (taken kinds checking) checking opens
-      (subst (λ e. EndsLists (taken kinds checking) checking opens lists w w' e) well ends) refl
+      lists_passed (taken checking) checking opens
+      (subst (λ e. EndsLists (taken checking) checking opens lists w w' e) well ends) refl
 
 -- a call that ends well did its work
 module _ (opens : Opens) (call : List Saying) (w w' : Option (List ℕ)) (outcome : Outcome Misuse Nothing) where
@@ -41,33 +42,30 @@ module _ (opens : Opens) (call : List Saying) (w w' : Option (List ℕ)) (outcom
   -- by the hash that is asked for
   work_passed : request_of call ≡ Work → misuse_of call ≡ None → (keys : Option (ℕ × ℕ))
       → AreKeysFor (key_rule call) opens (key_file call) keys
-      → (told : List LineKind) → map told_of told ≡ kinds_under keys → given (codes "check") call ≡ true
-      → (kind : Option LineKind) → kind_of told (asked call) ≡ kind
-      → EndsTask told opens (files_or (operands call)) w w' (work_by call kind) outcome → status_of outcome ≡ 0
+      → given (codes "check") call ≡ true → (kind : Option Sum) → kind_of (kinds true) (asked call) ≡ kind
+      → EndsTask opens (files_or (operands call)) w w' (work_by call keys kind) outcome → status_of outcome ≡ 0
       → HasEndedWell opens call
-  work_passed works no_misuse keys are told are_told checks None is_kind (is, kept) zero = absurd (not_well UnknownName is zero)
-  work_passed works no_misuse keys are told are_told checks (Some kind) is_kind ends zero =
+  work_passed works no_misuse keys are checks None is_kind (is, kept) zero = absurd (not_well UnknownName is zero)
+  work_passed works no_misuse keys are checks (Some kind) is_kind ends zero =
       let files = files_or (operands call) in
-      let task : work_of call kind ≡ Check (checking_of call kind) =
-      ap (λ b. if b then Check (checking_of call kind) else Sum (summing_of call kind)) checks in record {
+      let task : work_of call keys kind ≡ Check (checking_of call keys kind) =
+      ap (λ b. if b then Check (checking_of call keys kind) else task.Sum (summing_of call keys kind)) checks in record {
         works = works;
         no_misuse = no_misuse;
         keys = keys;
         are_keys = are;
-        told = told;
-        are_told = are_told;
         kind = kind;
         is_asked = is_kind;
-        passed = check_passed told (checking_of call kind) opens files w w' outcome
-            (subst (λ t. EndsTask told opens files w w' (Ok t) outcome) task ends) zero;
+        passed = check_passed (checking_of call keys kind) opens files w w' outcome
+            (subst (λ t. EndsTask opens files w w' (Ok t) outcome) task ends) zero;
       }
 
   -- by what is wrong with the call
   unless_passed : request_of call ≡ Work → given (codes "check") call ≡ true → (misuse : Option Misuse) → misuse_of call ≡ misuse
       → EndsUnless misuse opens call w w' outcome → status_of outcome ≡ 0 → HasEndedWell opens call
   unless_passed works checks (Some misuse) is_misuse (is, kept) zero = absurd (not_well (Own misuse) is zero)
-  unless_passed works checks None no_misuse (inl (keys, are, told, are_told, ends)) zero =
-      work_passed works no_misuse keys are told are_told checks (kind_of told (asked call)) refl ends zero
+  unless_passed works checks None no_misuse (inl (keys, are, ends)) zero =
+      work_passed works no_misuse keys are checks (kind_of (kinds true) (asked call)) refl ends zero
   unless_passed works checks None no_misuse (inr (inl (some, is, kept))) zero = absurd (grind (arith, is, zero))
   unless_passed works checks None no_misuse (inr (inr (is, kept))) zero = absurd (grind (arith, is, zero))
 

@@ -1,5 +1,5 @@
 -- What a list that passed tells of a file is so.
-use Rattle.hashsum_core.proofs.Common.{◌≡◌, inl, inr, ℕ, suc, zero-lt-suc, ◌<◌, Bool, true, false, if◌then◌else◌, List, [], ◌∷◌, length, map, Option, Some, None, Result, Ok, Err, Contains, sym, ap, ◌∙◌, subst, arith, slice_index_or, error_kind, nat_tests, false≢true, get_or-map, length-map, LineKind, AreTags, IsTag, Tells, lines_by, Opens, is_named, kind_of, sum_by, find, is_itself, is_not_found, is_skipped, takes_sfv, verdict_on, IsLineCheck, bare, AreLines, taken, Checking, fails, HasHash, HasPassed, LineTells, ListTells, SumsFile, LineCheck, Unhashed, Unopened}
+use Rattle.hashsum_core.proofs.Common.{◌≡◌, inl, inr, ℕ, suc, zero-lt-suc, ◌<◌, Bool, true, false, if◌then◌else◌, List, [], ◌∷◌, length, map, Option, Some, None, Result, Ok, Err, Contains, sym, ap, ◌∙◌, subst, arith, slice_index_or, error_kind, nat_tests, false≢true, get_or-map, length-map, Sum, AreTags, IsTag, Tells, lines_by, Opens, is_named, kind_of, find, is_itself, is_not_found, is_skipped, takes_sfv, verdict_on, IsLineCheck, bare, AreLines, taken, Checking, fails, HasHash, HasPassed, LineTells, ListTells, SumsFile, LineCheck, Unhashed, Unopened, name_in, kinds, sum_under}
 use Rattle.hash_lines.specs.declared.parse.HashLine.{HashLine}
 use Rattle.hash_lines.proofs.OneLemmas.{line_one}
 use Rattle.hashsum_core.specs.declared.check.LineCheck.TheVariants.{Skipped, Improper, Checked}
@@ -8,11 +8,11 @@ use Rattle.hashsum_core.specs.declared.sum.Unsummed.{Unsummed}
 use Rattle.hashsum_core.proofs.AskedLemmas.{only_one}
 use Rattle.hashsum_core.proofs.NameLemmas.{some_same}
 
-module _ (kinds : List LineKind) (checking : Checking) (opens : Opens) where
+module _ (kinds : List Sum) (checking : Checking) (opens : Opens) where
   -- a verdict that does not fail its list
-  of_came : (entry : HashLine) (kind : LineKind) (name : List ℕ) (number : ℕ) (came : Result ℕ Unsummed)
+  of_came : (entry : HashLine) (kind : Sum) (name : List ℕ) (number : ℕ) (came : Result ℕ Unsummed)
       → fails checking.strict (Checked entry (verdict_on checking.ignore_missing number came)) ≡ false
-      → SumsFile (opens name) (sum_by kind) came → HasHash checking opens kind name number
+      → SumsFile (opens name) (sum_under checking.keys kind) came → HasHash checking opens kind name number
   of_came entry kind name number (Ok found) well (held, can, is) =
       let same : found ≡ number = grind (arith, nat_tests, well) in
       inl (held, can, rw same at is)
@@ -22,7 +22,7 @@ module _ (kinds : List LineKind) (checking : Checking) (opens : Opens) where
   of_came entry kind name number (Err (Unhashed why)) well cannot = absurd (false≢true (sym well))
 
   -- a line that tells this and does not fail its list
-  module _ (are : AreTags kinds checking.kind) (list : List ℕ) (kind : LineKind) (name : List ℕ) (number : ℕ)
+  module _ (are : AreTags kinds checking.kind) (list : List ℕ) (kind : Sum) (name : List ℕ) (number : ℕ)
       (of_another : is_itself list name ≡ false) where
     of_checked : (line : List ℕ) (entry : HashLine) (verdict : Verdict) → Tells kinds checking.kind kind name number line
         → IsLineCheck kinds checking opens list line (Checked entry verdict) → fails checking.strict (Checked entry verdict) ≡ false
@@ -51,7 +51,7 @@ module _ (kinds : List LineKind) (checking : Checking) (opens : Opens) where
     of_line line (Checked entry verdict) tells no_comment came well = of_checked line entry verdict tells came well
 
   -- what a line that was read of a list tells that passed
-  pub line_is_so : AreTags kinds checking.kind → (list line : List ℕ) (kind : LineKind) (name : List ℕ) (number : ℕ)
+  pub line_is_so : AreTags kinds checking.kind → (list line : List ℕ) (kind : Sum) (name : List ℕ) (number : ℕ)
       → (passed : HasPassed kinds checking opens list) → Contains (map (λ line. line.0) passed.lines) line
       → LineTells kinds checking list line kind name number → HasHash checking opens kind name number
   line_is_so are list read kind name number passed (k, within, is) told =
@@ -65,7 +65,7 @@ module _ (kinds : List LineKind) (checking : Checking) (opens : Opens) where
       (passed.none_fails k (read, Skipped) below)
 
   -- what a list that passed tells
-  pub told_is_so : AreTags kinds checking.kind → (list : List ℕ) (kind : LineKind) (name : List ℕ) (number : ℕ)
+  pub told_is_so : AreTags kinds checking.kind → (list : List ℕ) (kind : Sum) (name : List ℕ) (number : ℕ)
       → HasPassed kinds checking opens list → ListTells kinds checking opens list kind name number
       → HasHash checking opens kind name number
   told_is_so are list kind name number passed told =
@@ -74,19 +74,19 @@ module _ (kinds : List LineKind) (checking : Checking) (opens : Opens) where
       line_is_so are list told.line kind name number passed (subst (λ ls. Contains ls told.line) (sym are_lines) told.is_line) told.tells
 
 -- of the kinds that can be told, the one that is taken alone has a tag too
-pub taken_are_tags : (kinds : List LineKind) (checking : Checking) → AreTags kinds checking.kind → Contains kinds checking.kind
-    → AreTags (taken kinds checking) checking.kind
-taken_are_tags kinds checking are has = at checking.only
+pub taken_are_tags : (checking : Checking) → AreTags (kinds true) checking.kind → Contains (kinds true) checking.kind
+    → AreTags (taken checking) checking.kind
+taken_are_tags checking are has = at checking.only
   where
-    at : (b : Bool) → AreTags (if b then checking.kind ∷ [] else kinds) checking.kind
+    at : (b : Bool) → AreTags (if b then checking.kind ∷ [] else kinds true) checking.kind
     at false = are
     at true = record {
-      each = λ other inside. subst (λ (k : LineKind). IsTag k.name.now) (sym (only_one checking.kind other inside)) (are.each checking.kind has);
+      each = λ other inside. subst (λ (k : Sum). IsTag (name_in k)) (sym (only_one checking.kind other inside)) (are.each checking.kind has);
       apart = λ other more inside too same. only_one checking.kind other inside ∙ sym (only_one checking.kind more too);
     }
 
 -- the kind of a name, or the first, is among them
-kind_found : (p : LineKind → Bool) (kinds : List LineKind) (kind : LineKind) → find p kinds ≡ Some kind → Contains kinds kind
+kind_found : (p : Sum → Bool) (kinds : List Sum) (kind : Sum) → find p kinds ≡ Some kind → Contains kinds kind
 kind_found p [] kind none = cc
 kind_found p (first ∷ more) kind is = at (p first) is (kind_found p more kind)
   where
@@ -95,7 +95,7 @@ kind_found p (first ∷ more) kind is = at (p first) is (kind_found p more kind)
     at true same later = (0, zero-lt-suc (length more), some_same same)
     at false rest later = let (k, below, there) = later rest in (suc k, omega (arith, below), there)
 
-pub kind_is_there : (kinds : List LineKind) (name : Option (List ℕ)) (kind : LineKind) → kind_of kinds name ≡ Some kind → Contains kinds kind
+pub kind_is_there : (kinds : List Sum) (name : Option (List ℕ)) (kind : Sum) → kind_of kinds name ≡ Some kind → Contains kinds kind
 kind_is_there [] None kind none = cc
 kind_is_there (first ∷ more) None kind is = (0, zero-lt-suc (length more), some_same is)
-kind_is_there kinds (Some name) kind is = kind_found (λ k. is_named name k.name.now) kinds kind is
+kind_is_there kinds (Some name) kind is = kind_found (λ k. is_named name (name_in k)) kinds kind is

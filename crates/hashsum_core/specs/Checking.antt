@@ -1,5 +1,5 @@
 -- What comes of the lines that are checked.
-use Rattle.std.specs.Prelude.{ℕ, ◌≡◌, ◌+◌, ◌-◌, ◌^◌, ◌==◌, ◌&&◌, ◌||◌, ◌⊎◌, if◌then◌else◌, min, nat_lt, not, Bool, true, false, List, [], ◌∷◌, ◌++◌, length, drop, Option, Result, Ok, Err, codes}
+use Rattle.std.specs.Prelude.{ℕ, ◌≡◌, ◌+◌, ◌-◌, ◌^◌, ◌==◌, ◌&&◌, ◌||◌, ◌⊎◌, if◌then◌else◌, is_none, min, nat_lt, not, Bool, true, false, List, [], ◌∷◌, ◌++◌, length, drop, Option, Result, Ok, Err, codes}
 use Rattle.std.specs.IoError.{error_kind}
 use Rattle.std.specs.Str.{bytes_eq}
 use Rattle.std.specs.declared.io.Error.{Error}
@@ -9,7 +9,7 @@ use Rattle.hash_lines.specs.Escape.{needs_escape}
 use Rattle.hash_lines.specs.Line.{mark, name_shown}
 use Rattle.hash_lines.specs.Forms.{TellsNothingSo, TellsSo}
 use Rattle.hash_lines.specs.Told.{Tells, TellsNothing}
-use Rattle.hash_lines.specs.declared.line.LineKind.{LineKind}
+use Rattle.hash_lines.specs.declared.sums.Sum.{Sum}
 use Rattle.hashsum_core.specs.declared.check.Checking.{Checking}
 use Rattle.hashsum_core.specs.declared.check.LineCheck.{LineCheck}
 use Rattle.hashsum_core.specs.declared.check.LineCheck.TheVariants.{Skipped, Improper, Checked}
@@ -19,8 +19,8 @@ use Rattle.hashsum_core.specs.declared.check.Verdict.TheVariants.{Same, Differen
 use Rattle.hashsum_core.specs.declared.sum.Unsummed.{Unsummed}
 use Rattle.hashsum_core.specs.declared.sum.Unsummed.TheVariants.{Unhashed, Unopened}
 use Rattle.cli.specs.Files.{Opens}
-use Rattle.hashsum_core.specs.Files.{SumsFile}
-use Rattle.hashsum_core.specs.Sums.{is_named, sum_at, sum_by, takes_keys}
+use Rattle.hashsum_core.specs.Files.{SumsFile, sum_under}
+use Rattle.hash_lines.specs.Sums.{is_named, name_in, takes_keys}
 
 -- whether a file is not there
 abbrev pub is_not_found : ErrorKind → Bool
@@ -47,16 +47,16 @@ is_skipped sfv [] = true
 is_skipped sfv (first ∷ more) = first == (if sfv then 59 else 35)
 
 -- whether lines of SFV files are taken: in a list whose name ends in .sfv, and where untagged lines are by crc32
-abbrev pub takes_sfv : LineKind → (list : List ℕ) → Bool
-takes_sfv kind list = bytes_eq kind.name.now (codes "crc32") || is_named (codes ".sfv") (drop (length list - 4) list)
+abbrev pub takes_sfv : Sum → (list : List ℕ) → Bool
+takes_sfv kind list = bytes_eq (name_in kind) (codes "crc32") || is_named (codes ".sfv") (drop (length list - 4) list)
 
 -- a line tells this: as one of ours, or, where it is none of ours, in another program's form
-abbrev pub TellsAny : (sfv : Bool) → List LineKind → (default : LineKind) → LineKind → (name : List ℕ) (number : ℕ) → List ℕ → Type 0
+abbrev pub TellsAny : (sfv : Bool) → List Sum → (default : Sum) → Sum → (name : List ℕ) (number : ℕ) → List ℕ → Type 0
 TellsAny sfv kinds default kind name number line = Tells kinds default kind name number line
     ⊎ (TellsNothing kinds default line × TellsSo sfv kinds default kind name number line)
 
 -- a line tells no hash, in no form
-abbrev pub TellsNone : (sfv : Bool) → List LineKind → (default : LineKind) → List ℕ → Type 0
+abbrev pub TellsNone : (sfv : Bool) → List Sum → (default : Sum) → List ℕ → Type 0
 TellsNone sfv kinds default line = TellsNothing kinds default line × TellsNothingSo sfv kinds default line
 
 -- whether a line is of the list that it stands in: where both are standard input
@@ -64,22 +64,22 @@ abbrev pub is_itself : (list name : List ℕ) → Bool
 is_itself list name = bytes_eq list (codes "-") && bytes_eq name (codes "-")
 
 -- a line of a list is of standard input, as which the list is read
-abbrev pub TellsItself : List LineKind → Checking → (list line : List ℕ) → Type 0
-TellsItself kinds checking list line = (kind : LineKind) × (name : List ℕ) × (number : ℕ)
+abbrev pub TellsItself : List Sum → Checking → (list line : List ℕ) → Type 0
+TellsItself kinds checking list line = (kind : Sum) × (name : List ℕ) × (number : ℕ)
     × TellsAny (takes_sfv checking.kind list) kinds checking.kind kind name number line × (is_itself list name ≡ true)
 
 -- whether a line by a hash needs keys, and there are none
-abbrev pub lacks_keys : (keyed : Bool) → LineKind → Bool
-lacks_keys keyed kind = not keyed && takes_keys (sum_at kind.which)
+abbrev pub lacks_keys : (keys : Option (ℕ × ℕ)) → Sum → Bool
+lacks_keys keys kind = is_none keys && takes_keys kind
 
 -- the verdict on a line's file: that it lacks keys, or else that on what came of the file
-abbrev pub IsVerdictBy : Checking → Opens → LineKind → (name : List ℕ) (number : ℕ) → Verdict → Type 0
+abbrev pub IsVerdictBy : Checking → Opens → Sum → (name : List ℕ) (number : ℕ) → Verdict → Type 0
 IsVerdictBy checking opens kind name number verdict =
-    ((lacks_keys checking.keyed kind ≡ true) × (verdict ≡ Unkeyed))
-    ⊎ ((lacks_keys checking.keyed kind ≡ false) × IsVerdict (opens name) (sum_by kind) checking.ignore_missing number verdict)
+    ((lacks_keys checking.keys kind ≡ true) × (verdict ≡ Unkeyed))
+    ⊎ ((lacks_keys checking.keys kind ≡ false) × IsVerdict (opens name) (sum_under checking.keys kind) checking.ignore_missing number verdict)
 
 -- what came of a line of a list. It is improper exactly if it tells no hash, or is of the list itself
-abbrev pub IsLineCheck : List LineKind → Checking → Opens → (list line : List ℕ) → LineCheck → Type 0
+abbrev pub IsLineCheck : List Sum → Checking → Opens → (list line : List ℕ) → LineCheck → Type 0
 IsLineCheck kinds checking opens list line Skipped = is_skipped (takes_sfv checking.kind list) line ≡ true
 IsLineCheck kinds checking opens list line Improper = (is_skipped (takes_sfv checking.kind list) line ≡ false)
     × (TellsNone (takes_sfv checking.kind list) kinds checking.kind line ⊎ TellsItself kinds checking list line)

@@ -1,9 +1,15 @@
 -- The numbers of files.
-use Rattle.std.specs.Prelude.{ℕ, ◌≡◌, ◌-◌, ◌^◌, List, Option, Result, Ok, Err}
+use Rattle.std.specs.Prelude.{ℕ, ◌≡◌, ◌-◌, ◌^◌, List, Option, Result, Ok, Err, unwrap_or}
 use Rattle.std.specs.declared.io.Error.{Error}
-use Rattle.hash_names.specs.Limited.{Hashes, Reading, ReadsAll}
+use Rattle.hash_laws.specs.Limited.{Hashes, Reading, ReadsAll}
+use Rattle.hash_lines.specs.Sums.{sum_of}
+use Rattle.hash_lines.specs.declared.sums.Sum.{Sum}
 use Rattle.hashsum_core.specs.declared.sum.Unsummed.{Unsummed}
 use Rattle.hashsum_core.specs.declared.sum.Unsummed.TheVariants.{Unhashed, Unopened}
+
+-- what a hash makes of a text under the keys of a key file, or under zeros if there is none
+abbrev pub sum_under : Option (ℕ × ℕ) → Sum → List ℕ → ℕ
+sum_under keys = sum_of (unwrap_or keys (0, 0))
 
 -- a file that holds this is read from its beginning, up to the greatest length
 abbrev pub from_start : (held left : Option (List ℕ)) → Reading

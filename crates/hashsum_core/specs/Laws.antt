@@ -10,11 +10,11 @@ use Rattle.hashers.specs.DifferWithin.{DifferAtOnePlace, DifferWithin}
 use Rattle.hashers.specs.Fx.{words32, words64}
 use Rattle.hashers.specs.Text.{IsText}
 use Rattle.hashsum_core.specs.declared.check.Verdict.TheVariants.{Same}
-use Rattle.hashsum_core.specs.declared.sums.Sum.{Sum}
+use Rattle.hash_lines.specs.declared.sums.Sum.{Sum}
 use Rattle.hashsum_core.specs.Checking.{IsVerdict}
 use Rattle.cli.specs.Files.{Opens}
 use Rattle.hashsum_core.specs.Files.{ReadsFile}
-use Rattle.hashsum_core.specs.Sums.{name_in, number_named, sum_of}
+use Rattle.hash_lines.specs.Sums.{name_in, number_named, sum_of}
 
 -- the name has a hash; and if a file is the same by it as a first text, then the text that was read of the file has this hash, and does
 -- not differ from the first text by such a change

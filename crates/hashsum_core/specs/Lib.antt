@@ -7,6 +7,4 @@ pub mod Lists
 pub mod Passed
 pub mod Program
 pub mod Summing
-pub mod Sums
-pub mod Told
 pub mod Ended

@@ -3,7 +3,7 @@ use Rattle.std.specs.Prelude.{ℕ, ◌≡◌, ◌⊎◌, ◌==◌, ◌&&◌, if�
 use Rattle.std.specs.Io.BufRead.{strip_last}
 use Rattle.std.specs.Io.KnownBytes.{Appends, Keeps}
 use Rattle.std.specs.declared.io.Error.{Error}
-use Rattle.hash_lines.specs.declared.line.LineKind.{LineKind}
+use Rattle.hash_lines.specs.declared.sums.Sum.{Sum}
 use Rattle.streams.specs.Streams.{AppendsPart}
 use Rattle.text_set.specs.Lines.{lines_by}
 use Rattle.hashsum_core.specs.declared.check.LineCheck.{LineCheck}
@@ -13,7 +13,7 @@ use Rattle.streams.specs.declared.failure.Failure.{Failure}
 use Rattle.streams.specs.declared.failure.Nothing.{Nothing}
 use Rattle.hashsum_core.specs.Checking.{counted, passes, said, IsLineCheck}
 use Rattle.cli.specs.Files.{Opens}
-use Rattle.hashsum_core.specs.Told.{AreTold, AreTornOff}
+use Rattle.cli.specs.Told.{AreTold, AreTornOff}
 
 -- these lines come first in what was held, where that is known, and this is left behind them
 abbrev pub AreFirstLines : (held : Option (List ℕ)) (lines : List (List ℕ)) (left : Option (List ℕ)) → Type 0
@@ -34,7 +34,7 @@ abbrev pub bare : List ℕ → List ℕ
 bare line = unmarked (strip_last 13 (strip_last 10 line))
 
 -- what came of a line of a list, with its end
-abbrev pub IsLineCheckOf : List LineKind → Checking → Opens → (list : List ℕ) → List ℕ × LineCheck → Type 0
+abbrev pub IsLineCheckOf : List Sum → Checking → Opens → (list : List ℕ) → List ℕ × LineCheck → Type 0
 IsLineCheckOf kinds checking opens list line = IsLineCheck kinds checking opens list (bare line.0) line.1
 
 -- the line that is written of it
@@ -50,7 +50,7 @@ abbrev pub counts_of : List (List ℕ × LineCheck) → Counts
 counts_of lines = fold (λ counts line. counted counts line.1) uncounted lines
 
 -- how a line ends: what came of it was written, or a beginning of that, or nothing
-abbrev pub EndsLine : List LineKind → Checking → Opens → (list line : List ℕ) (written written' : Option (List ℕ))
+abbrev pub EndsLine : List Sum → Checking → Opens → (list line : List ℕ) (written written' : Option (List ℕ))
     → Result LineCheck (Failure Nothing) → Type 0
 EndsLine kinds checking opens list line written written' (Ok came) =
     IsLineCheckOf kinds checking opens list (line, came) × Appends written written' (said_of checking (line, came))
@@ -59,7 +59,7 @@ EndsLine kinds checking opens list line written written' (Err fault) = Keeps wri
 
 -- how a list ends of which these bytes are left: what came of all its lines was written, and the counts are theirs; or it failed,
 -- and the same holds of its first lines; or a beginning of this was written
-abbrev pub EndsList : List LineKind → Checking → Opens → (list : List ℕ) (left : Option (List ℕ))
+abbrev pub EndsList : List Sum → Checking → Opens → (list : List ℕ) (left : Option (List ℕ))
     (written written' : Option (List ℕ)) → Result (Option Counts) (Failure Nothing) → Type 0
 EndsList kinds checking opens list left written written' (Ok (Some counts)) =
     (lines : List (List ℕ)) × AreLines left lines
@@ -75,7 +75,7 @@ EndsList kinds checking opens list left written written' (Err fault) =
     × AreTornOff (λ line. line.0) (IsLineCheckOf kinds checking opens list) (said_of checking) (λ line. true) lines written written'
 
 -- how a list ends that was opened: its lines pass or do not, or it failed; or a beginning of what is due was written
-abbrev pub EndsOpened : List LineKind → Checking → Opens → (list : List ℕ) (left written written' : Option (List ℕ)) → Result Bool (Failure Nothing) → Type 0
+abbrev pub EndsOpened : List Sum → Checking → Opens → (list : List ℕ) (left written written' : Option (List ℕ)) → Result Bool (Failure Nothing) → Type 0
 EndsOpened kinds checking opens list left written written' (Ok passed) =
     ((counts : Counts) × EndsList kinds checking opens list left written written' (Ok (Some counts))
     × (passed ≡ passes checking.strict counts))
@@ -83,14 +83,14 @@ EndsOpened kinds checking opens list left written written' (Ok passed) =
 EndsOpened kinds checking opens list left written written' (Err fault) = EndsList kinds checking opens list left written written' (Err fault)
 
 -- how the list of a name ends: as what it opens does; or it could not be opened, and does not pass
-abbrev pub EndsListOf : List LineKind → Checking → Opens → (list : List ℕ) (written written' : Option (List ℕ))
+abbrev pub EndsListOf : List Sum → Checking → Opens → (list : List ℕ) (written written' : Option (List ℕ))
     → Result Bool (Failure Nothing) → Type 0
 EndsListOf kinds checking opens list written written' ended =
     ((held : Option (List ℕ)) × opens list (Ok held) × EndsOpened kinds checking opens list held written written' ended)
     ⊎ ((error : Error) × opens list (Err error) × Keeps written written' × (ended ≡ Ok false))
 
 -- the lists of these names ended, one behind the other, and whether all pass
-pub data AreListed (kinds : List LineKind) (checking : Checking) (opens : Opens) : (lists : List (List ℕ))
+pub data AreListed (kinds : List Sum) (checking : Checking) (opens : Opens) : (lists : List (List ℕ))
     (written written' : Option (List ℕ)) (all : Bool) → Type 0 where
   no_list : {written : Option (List ℕ)} → AreListed kinds checking opens [] written written true
   next_list : {lists : List (List ℕ)} {written between written' : Option (List ℕ)} {all : Bool} (list : List ℕ) (passed : Bool)
@@ -98,7 +98,7 @@ pub data AreListed (kinds : List LineKind) (checking : Checking) (opens : Opens)
       → AreListed kinds checking opens (lists ++ list ∷ []) written written' (all && passed)
 
 -- how a run over the lists of these names ends: all ended, or some did and of the next a beginning of what is due was written
-abbrev pub EndsLists : List LineKind → Checking → Opens → (lists : List (List ℕ))
+abbrev pub EndsLists : List Sum → Checking → Opens → (lists : List (List ℕ))
     (written written' : Option (List ℕ)) → Result Bool (Failure Nothing) → Type 0
 EndsLists kinds checking opens lists written written' (Ok all) = AreListed kinds checking opens lists written written' all
 EndsLists kinds checking opens lists written written' (Err fault) =

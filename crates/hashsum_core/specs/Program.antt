@@ -1,9 +1,9 @@
 -- What the program `hashsum` is asked for, and how it ends.
-use Rattle.std.specs.Prelude.{ℕ, ◌≡◌, ◌||◌, ◌&&◌, ◌⊎◌, not, if◌then◌else◌, IsSome, Bool, false, List, [], ◌∷◌, Option, Some, None, Result, Ok, Err, map, is_some, codes}
+use Rattle.std.specs.Prelude.{ℕ, ◌≡◌, ◌||◌, ◌&&◌, ◌⊎◌, not, if◌then◌else◌, IsSome, Bool, true, false, List, [], ◌∷◌, Option, Some, None, Result, Ok, Err, is_some, codes}
 use Rattle.std.specs.Io.KnownBytes.{Keeps}
-use Rattle.std.specs.Option.{option_or, unwrap_or}
+use Rattle.std.specs.Option.{option_or}
 use Rattle.hash_lines.specs.declared.line.Form.TheVariants.{Tagged, Untagged}
-use Rattle.hash_lines.specs.declared.line.LineKind.{LineKind}
+use Rattle.hash_lines.specs.declared.sums.Sum.{Sum}
 use Rattle.cli.specs.Call.{Choice, Saying, flag, given, given_last, operands, taking, value_of}
 use Rattle.cli.specs.Frame.{EndsRequest, request_of}
 use Rattle.streams.specs.declared.failure.Failure.{Failure}
@@ -27,7 +27,7 @@ use Rattle.cli.specs.Outcome.{of_run}
 use Rattle.hashsum_core.specs.Keys.{AreKeysFor}
 use Rattle.hashsum_core.specs.Lists.{EndsLists}
 use Rattle.hashsum_core.specs.Summing.{EndsSums}
-use Rattle.hashsum_core.specs.Sums.{is_named, kind_of, kinds, told_of, Told}
+use Rattle.hash_lines.specs.Sums.{is_named, kind_of, kinds}
 
 -- the options
 abbrev pub options : List Choice
@@ -41,12 +41,12 @@ options = taking (Some 97) (codes "algorithm") ∷ taking None (codes "key-file"
 abbrev pub asked : (call : List Saying) → Option (List ℕ)
 asked call = option_or (value_of (codes "algorithm") call) (if given (codes "key-file") call then Some (codes "poly61") else None)
 
--- how lines are checked by a hash
-abbrev pub checking_of : (call : List Saying) → LineKind → Checking
-checking_of call kind = record {
+-- how lines are checked by a hash, under these keys
+abbrev pub checking_of : (call : List Saying) → Option (ℕ × ℕ) → Sum → Checking
+checking_of call keys kind = record {
   kind = kind;
+  keys = keys;
   only = is_some (asked call);
-  keyed = given (codes "key-file") call;
   quiet = given (codes "quiet") call;
   status = given (codes "status") call;
   strict = given (codes "strict") call;
@@ -54,10 +54,11 @@ checking_of call kind = record {
   warn = given (codes "warn") call;
 }
 
--- how files are summed by a hash; of the options on the form of a line the last counts
-abbrev pub summing_of : (call : List Saying) → LineKind → Summing
-summing_of call kind = record {
+-- how files are summed by a hash, under these keys; of the options on the form of a line the last counts
+abbrev pub summing_of : (call : List Saying) → Option (ℕ × ℕ) → Sum → Summing
+summing_of call keys kind = record {
   kind = kind;
+  keys = keys;
   form = if given_last (codes "untagged") (codes "tag") call then Untagged else Tagged;
   zero = given (codes "zero") call;
 }
@@ -103,49 +104,44 @@ misuse_of call =
     else if keyed && not (asks_for_keyed call) then Some misuse.UnusedKeyFile
     else None
 
--- what is to be done by a hash
-abbrev pub work_of : (call : List Saying) → LineKind → Task
-work_of call kind = if given (codes "check") call then task.Check (checking_of call kind) else task.Sum (summing_of call kind)
+-- what is to be done by a hash, under these keys
+abbrev pub work_of : (call : List Saying) → Option (ℕ × ℕ) → Sum → Task
+work_of call keys kind =
+    if given (codes "check") call then task.Check (checking_of call keys kind) else task.Sum (summing_of call keys kind)
 
 -- the same, if there is such a hash
-abbrev pub work_by : (call : List Saying) → Option LineKind → Result Task (Wrong Misuse)
-work_by call None = Err UnknownName
-work_by call (Some kind) = Ok (work_of call kind)
+abbrev pub work_by : (call : List Saying) → Option (ℕ × ℕ) → Option Sum → Result Task (Wrong Misuse)
+work_by call keys None = Err UnknownName
+work_by call keys (Some kind) = Ok (work_of call keys kind)
 
 -- which work a call asks for
-abbrev pub task_of : List LineKind → (call : List Saying) → Result Task (Wrong Misuse)
-task_of kinds call = work_by call (kind_of kinds (asked call))
+abbrev pub task_of : (call : List Saying) → Option (ℕ × ℕ) → Result Task (Wrong Misuse)
+task_of call keys = work_by call keys (kind_of (kinds true) (asked call))
 
--- the hashes whose lines are taken: the one that is asked for, or all
-abbrev pub taken : List LineKind → Checking → List LineKind
-taken kinds checking = if checking.only then checking.kind ∷ [] else kinds
+-- the hashes whose lines are taken: the one that is asked for, or all; also without keys lines of those that take them are known, which
+-- then never pass
+abbrev pub taken : Checking → List Sum
+taken checking = if checking.only then checking.kind ∷ [] else kinds true
 
 -- how a task ends over the files of these names; a wrong call writes nothing
-abbrev pub EndsTask : List LineKind → Opens → (files : List (List ℕ)) (written written' : Option (List ℕ)) → Result Task (Wrong Misuse)
+abbrev pub EndsTask : Opens → (files : List (List ℕ)) (written written' : Option (List ℕ)) → Result Task (Wrong Misuse)
     → Outcome Misuse Nothing → Type 0
-EndsTask kinds opens files written written' (Ok (task.Sum summing)) result =
+EndsTask opens files written written' (Ok (task.Sum summing)) result =
     (ended : Result Bool (Failure Nothing)) × EndsSums summing opens files written written' ended × (result ≡ of_run ended)
-EndsTask kinds opens files written written' (Ok (task.Check checking)) result =
-    (ended : Result Bool (Failure Nothing)) × EndsLists (taken kinds checking) checking opens files written written' ended
+EndsTask opens files written written' (Ok (task.Check checking)) result =
+    (ended : Result Bool (Failure Nothing)) × EndsLists (taken checking) checking opens files written written' ended
     × (result ≡ of_run ended)
-EndsTask kinds opens files written written' (Err wrong) result = (result ≡ Usage wrong) × Keeps written written'
-
--- the hashes that can be told under these keys. Without keys those that take them are there under zeros, so that their lines are known;
--- they never pass
-abbrev pub kinds_under : Option (ℕ × ℕ) → List Told
-kinds_under keys = kinds (Some (unwrap_or keys (0, 0)))
+EndsTask opens files written written' (Err wrong) result = (result ≡ Usage wrong) × Keeps written written'
 
 -- the key file of a call, if it gives one
 abbrev pub key_file : (call : List Saying) → Option (List ℕ)
 key_file call = value_of (codes "key-file") call
 
--- how the work of a call ends, by the hashes that can be told under the keys of its key file; or it has no such keys or there is no
--- memory, and nothing is written
+-- how the work of a call ends, under the keys of its key file; or it has no such keys or there is no memory, and nothing is written
 abbrev pub EndsWork : Opens → (call : List Saying) (written written' : Option (List ℕ)) → Outcome Misuse Nothing → Type 0
 EndsWork opens call written written' result =
-    ((keys : Option (ℕ × ℕ)) × AreKeysFor (key_rule call) opens (key_file call) keys × (told : List LineKind)
-    × (map told_of told ≡ kinds_under keys)
-    × EndsTask told opens (files_or (operands call)) written written' (task_of told call) result)
+    ((keys : Option (ℕ × ℕ)) × AreKeysFor (key_rule call) opens (key_file call) keys
+    × EndsTask opens (files_or (operands call)) written written' (task_of call keys) result)
     ⊎ (IsSome (key_file call) × (result ≡ Reported) × Keeps written written')
     ⊎ ((result ≡ Failed NoMemory) × Keeps written written')
 

@@ -8,15 +8,13 @@ use Rattle.streams.specs.declared.failure.Nothing.{Nothing}
 use Rattle.hashsum_core.specs.declared.sum.Summing.{Summing}
 use Rattle.hashsum_core.specs.declared.sum.Unsummed.{Unsummed}
 use Rattle.cli.specs.Files.{Opens}
-use Rattle.hashsum_core.specs.Files.{SumsFile}
-use Rattle.hashsum_core.specs.Sums.{sum_by}
-use Rattle.hashsum_core.specs.Told.{AreTold, AreTornOff}
+use Rattle.hashsum_core.specs.Files.{SumsFile, sum_under}
+use Rattle.cli.specs.Told.{AreTold, AreTornOff}
 
 -- the line of a file, with its end
 abbrev pub sum_line : Summing → (name : List ℕ) (number : ℕ) → List ℕ
 sum_line summing name number =
-    line_of summing.form (not summing.zero) summing.kind.name.now summing.kind.width name number
-    ++ (if summing.zero then 0 else 10) ∷ []
+    line_of summing.form (not summing.zero) summing.kind name number ++ (if summing.zero then 0 else 10) ∷ []
 
 -- the line of a file that has a number
 abbrev pub line_told : Summing → List ℕ × Option ℕ → List ℕ
@@ -25,7 +23,7 @@ line_told summing (name, Some number) = sum_line summing name number
 
 -- a file has its number, or it failed
 abbrev pub IsSummed : Summing → Opens → List ℕ × Option ℕ → Type 0
-IsSummed summing opens file = let sums = SumsFile (opens file.0) (sum_by summing.kind) in
+IsSummed summing opens file = let sums = SumsFile (opens file.0) (sum_under summing.keys summing.kind) in
     MatchOption file.1 ((why : Unsummed) × sums (Err why)) (λ number. sums (Ok number))
 
 -- how the line of a file is told: it was written, or a beginning of it, or the file failed

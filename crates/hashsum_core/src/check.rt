@@ -2,20 +2,20 @@
 ghost use Rattle.std.specs.Prelude.{◌≡◌, true, false, [], map, IfOk, MatchOption, OnOk};
 ghost use Rattle.std.specs.IoError.{error_kind};
 ghost use Rattle.hashsum_core.specs.Checking.{behind_name, counted, is_itself, is_not_found, is_skipped, lacks_keys, passes, said, takes_sfv, verdict_on, verdict_words, IsLineCheck, IsVerdict, IsVerdictBy, TellsAny, TellsNone};
+ghost use Rattle.hashsum_core.specs.Files.{sum_under};
 ghost use Rattle.hashsum_core.specs.Lists.{bare, unmarked, EndsLine, EndsList, EndsListOf, EndsLists};
-ghost use Rattle.hashsum_core.specs.Sums.{sum_by};
 ghost use Rattle.std.specs.Io.Buffered.{writer_buffer, writer_contents};
 
 use crate::failure::Failure;
 use crate::hints::{NO_LINES, Untagged, hint_of, with_line};
 use crate::reports::Reports;
 use crate::sum::{Unsummed, error_of, number_of};
-use crate::sums::{is_keyed, is_named};
 use cli::folder::Folder;
 use hash_lines::escape::needs_escape;
 use hash_lines::forms::parse_form;
-use hash_lines::line::{LineKind, push_name};
+use hash_lines::line::push_name;
 use hash_lines::parse::{HashLine, parse_line};
+use hash_lines::sums::{Sum, is_named};
 use std::alloc::{AllocError, Global};
 use std::io;
 use std::io::{BufRead, BufReader, BufWriter, Error, ErrorKind, Read, Write};
@@ -28,13 +28,13 @@ const BUFFER: usize = 65536;
 
 /// How lines are checked.
 #[derive(Clone, Copy)]
-pub struct Checking<'k> {
+pub struct Checking {
     /// By which hash lines that are not tagged are checked.
-    pub kind: LineKind<'k>,
+    pub kind: Sum,
+    /// The keys for lines of hashes that take them, if there are any.
+    pub keys: Option<(u64, u64)>,
     /// Whether lines by other hashes are improper.
     pub only: bool,
-    /// Whether there are keys for lines of hashes that take them.
-    pub keyed: bool,
     /// Whether files that have the hash are left out.
     pub quiet: bool,
     /// Whether nothing is written.
@@ -64,13 +64,13 @@ pub enum Verdict {
 
 /// What came of a line.
 #[derive(Drop)]
-pub enum LineCheck<'k> {
+pub enum LineCheck {
     /// It is empty, or a comment.
     Skipped,
     /// It tells no hash, or that of its own list.
     Improper,
     /// The file that it tells of was looked at.
-    Checked(HashLine<'k>, Verdict),
+    Checked(HashLine, Verdict),
 }
 
 /// How often each came of the lines of a list.
@@ -103,8 +103,8 @@ pub fn passes(strict: bool, counts: &Counts) -> bool
 }
 
 /// Counts what came of a line more.
-fn count(counts: Counts, came: &LineCheck<'_>) -> Counts
-    ensures { result ≡ counted counts came.entry.now }
+fn count(counts: Counts, came: &LineCheck) -> Counts
+    ensures { result ≡ counted counts came.now }
 {
     match came {
         LineCheck::Skipped => counts,
@@ -171,14 +171,14 @@ fn verdict_of(ignore_missing: bool, told: u128, came: &Result<u128, Unsummed>) -
 /// Whether the file of an entry has the hash that it tells.
 fn check_file<R: Read + Drop, F: Folder<R>>(
     folder: &F,
-    entry: &HashLine<'_>,
-    ignore_missing: bool,
+    checking: Checking,
+    entry: &HashLine,
 ) -> Verdict
-    ensures { IsVerdict (F.opens folder.now entry.entry.now.name.items) (sum_by entry.entry.now.kind)
-        ignore_missing entry.entry.now.number result }
+    ensures { IsVerdict (F.opens folder.now entry.now.name.items) (sum_under checking.keys entry.now.kind)
+        checking.ignore_missing entry.now.number result }
 {
-    let came = number_of(folder, entry.kind, &entry.name);
-    let verdict = verdict_of(ignore_missing, entry.number, &came);
+    let came = number_of(folder, entry.kind, checking.keys, &entry.name);
+    let verdict = verdict_of(checking.ignore_missing, entry.number, &came);
     if let Verdict::Unread = verdict {
         if let Err(unsummed) = came {
             folder.failed(&entry.name, &error_of(unsummed));
@@ -188,32 +188,32 @@ fn check_file<R: Read + Drop, F: Folder<R>>(
 }
 
 /// Whether a line by a hash needs keys, and there are none.
-fn lacks_keys(keyed: bool, kind: LineKind<'_>) -> bool
-    ensures { result ≡ lacks_keys keyed kind.entry }
+fn lacks_keys(keys: Option<(u64, u64)>, kind: Sum) -> bool
+    ensures { result ≡ lacks_keys keys kind }
 {
-    !keyed && is_keyed(kind)
+    keys.is_none() && kind.takes_keys()
 }
 
 /// The verdict on the file of an entry.
 fn verdict_by<R: Read + Drop, F: Folder<R>>(
     folder: &F,
-    checking: Checking<'_>,
-    entry: &HashLine<'_>,
+    checking: Checking,
+    entry: &HashLine,
 ) -> Verdict
-    ensures { IsVerdictBy checking.entry (F.opens folder.now) entry.entry.now.kind entry.entry.now.name.items
-        entry.entry.now.number result }
+    ensures { IsVerdictBy checking (F.opens folder.now) entry.now.kind entry.now.name.items
+        entry.now.number result }
 {
-    if lacks_keys(checking.keyed, entry.kind) {
+    if lacks_keys(checking.keys, entry.kind) {
         return Verdict::Unkeyed;
     }
-    check_file(folder, entry, checking.ignore_missing)
+    check_file(folder, checking, entry)
 }
 
 /// Whether lines of SFV files are taken in the list of that name.
-fn takes_sfv(kind: LineKind<'_>, list: &[u8]) -> bool
-    ensures { result ≡ takes_sfv kind.entry list.now }
+fn takes_sfv(kind: Sum, list: &[u8]) -> bool
+    ensures { result ≡ takes_sfv kind list.now }
 {
-    kind.name == "crc32" || is_named(b".sfv", &list[list.len().saturating_sub(4)..])
+    kind.name() == "crc32" || is_named(b".sfv", &list[list.len().saturating_sub(4)..])
 }
 
 /// Whether a line of that name is of the list that it stands in.
@@ -234,15 +234,15 @@ fn is_skipped(sfv: bool, line: &[u8]) -> bool
 }
 
 /// What a line tells: as one of ours, or else in another program's form.
-fn entry_of<'k>(
+fn entry_of(
     alloc: Global,
-    kinds: &[LineKind<'k>],
-    kind: LineKind<'k>,
+    kinds: &[Sum],
+    kind: Sum,
     sfv: bool,
     line: &[u8],
-) -> Result<Option<HashLine<'k>>, AllocError>
-    ensures { IfOk result (λ found. MatchOption found (TellsNone sfv kinds.entry.now kind.entry line.now)
-        (λ entry. TellsAny sfv kinds.entry.now kind.entry entry.kind entry.name.items entry.number line.now)) }
+) -> Result<Option<HashLine>, AllocError>
+    ensures { IfOk result (λ found. MatchOption found (TellsNone sfv kinds.now kind line.now)
+        (λ entry. TellsAny sfv kinds.now kind entry.kind entry.name.items entry.number line.now)) }
 {
     if let Some(entry) = parse_line(alloc, kinds, kind, line)? {
         return Ok(Some(entry));
@@ -251,15 +251,15 @@ fn entry_of<'k>(
 }
 
 /// What comes of a line of the list of that name, without its end.
-fn check_line<'k, R: Read + Drop, F: Folder<R>>(
+fn check_line<R: Read + Drop, F: Folder<R>>(
     alloc: Global,
     folder: &F,
-    kinds: &[LineKind<'k>],
-    checking: Checking<'k>,
+    kinds: &[Sum],
+    checking: Checking,
     list: &[u8],
     line: &[u8],
-) -> Result<LineCheck<'k>, AllocError>
-    ensures { IfOk result (IsLineCheck kinds.entry.now checking.entry (F.opens folder.now) list.now line.now) }
+) -> Result<LineCheck, AllocError>
+    ensures { IfOk result (IsLineCheck kinds.now checking (F.opens folder.now) list.now line.now) }
 {
     let sfv = takes_sfv(checking.kind, list);
     if is_skipped(sfv, line) {
@@ -310,13 +310,8 @@ fn behind_name(alloc: Global, name: &[u8], words: &[u8]) -> Result<Vec<u8>, Allo
 }
 
 /// The line that is written of what came.
-fn said(
-    alloc: Global,
-    came: &LineCheck<'_>,
-    quiet: bool,
-    status: bool,
-) -> Result<Vec<u8>, AllocError>
-    ensures { IfOk result (λ text. text.items ≡ said quiet status came.entry.now) }
+fn said(alloc: Global, came: &LineCheck, quiet: bool, status: bool) -> Result<Vec<u8>, AllocError>
+    ensures { IfOk result (λ text. text.items ≡ said quiet status came.now) }
 {
     match came {
         LineCheck::Checked(entry, verdict) => {
@@ -345,16 +340,16 @@ fn bare(line: &[u8]) -> &[u8]
 }
 
 /// Checks a line of the list of that name, with its newline if it has one, and writes what came of it.
-fn tell_line<'k, R: Read + Drop, F: Folder<R>, W: Write + Drop>(
+fn tell_line<R: Read + Drop, F: Folder<R>, W: Write + Drop>(
     alloc: Global,
     folder: &F,
-    kinds: &[LineKind<'k>],
-    checking: Checking<'k>,
+    kinds: &[Sum],
+    checking: Checking,
     list: &[u8],
     line: &[u8],
     w: &mut BufWriter<W>,
-) -> Result<LineCheck<'k>, Failure>
-    ensures told { EndsLine kinds.entry.now checking.entry (F.opens folder.now) list.now line.now
+) -> Result<LineCheck, Failure>
+    ensures told { EndsLine kinds.now checking (F.opens folder.now) list.now line.now
         (writer_contents W.contents w.old) (writer_contents W.contents w.new) result }
     ensures flushed { OnOk result (writer_buffer w.new ≡ []) }
 {
@@ -388,13 +383,13 @@ const UNCOUNTED: Counts = Counts {
 fn check_lines<B: BufRead, R: Read + Drop, F: Folder<R> + Reports, W: Write + Drop>(
     alloc: Global,
     folder: &F,
-    kinds: &[LineKind<'static>],
-    checking: Checking<'static>,
+    kinds: &[Sum],
+    checking: Checking,
     list: &[u8],
     lines: &mut B,
     w: &mut BufWriter<W>,
 ) -> Result<Option<Counts>, Failure>
-    ensures told { EndsList kinds.now checking.entry (F.opens folder.now) list.now (B.remaining lines.old)
+    ensures told { EndsList kinds.now checking (F.opens folder.now) list.now (B.remaining lines.old)
         (writer_contents W.contents w.old) (writer_contents W.contents w.new) result }
     ensures flushed { OnOk result (writer_buffer w.old ≡ [] → writer_buffer w.new ≡ []) }
 {
@@ -433,7 +428,7 @@ fn hint<F: Reports>(reports: &F, only: bool, list: &[u8], untagged: Untagged) {
 }
 
 /// Tells an improper line, if that is asked for.
-fn warn<F: Reports>(reports: &F, warn: bool, list: &[u8], number: u64, came: &LineCheck<'_>) {
+fn warn<F: Reports>(reports: &F, warn: bool, list: &[u8], number: u64, came: &LineCheck) {
     if let LineCheck::Improper = came {
         if warn {
             reports.improper(list, number);
@@ -445,12 +440,12 @@ fn warn<F: Reports>(reports: &F, warn: bool, list: &[u8], number: u64, came: &Li
 fn check_list<R: Read + Drop, F: Folder<R> + Reports, W: Write + Drop>(
     alloc: Global,
     folder: &F,
-    kinds: &[LineKind<'static>],
-    checking: Checking<'static>,
+    kinds: &[Sum],
+    checking: Checking,
     list: &[u8],
     w: &mut BufWriter<W>,
 ) -> Result<bool, Failure>
-    ensures told { EndsListOf kinds.now checking.entry (F.opens folder.now) list.now
+    ensures told { EndsListOf kinds.now checking (F.opens folder.now) list.now
         (writer_contents W.contents w.old) (writer_contents W.contents w.new) result }
     ensures flushed { OnOk result (writer_buffer w.old ≡ [] → writer_buffer w.new ≡ []) }
 {
@@ -478,12 +473,12 @@ fn check_list<R: Read + Drop, F: Folder<R> + Reports, W: Write + Drop>(
 pub fn check_lists<R: Read + Drop, F: Folder<R> + Reports, W: Write + Drop>(
     alloc: Global,
     folder: &F,
-    kinds: &[LineKind<'static>],
-    checking: Checking<'static>,
+    kinds: &[Sum],
+    checking: Checking,
     lists: &[&[u8]],
     w: &mut BufWriter<W>,
 ) -> Result<bool, Failure>
-    ensures told { EndsLists kinds.now checking.entry (F.opens folder.now) (map (λ list. list.now) lists.now)
+    ensures told { EndsLists kinds.now checking (F.opens folder.now) (map (λ list. list.now) lists.now)
         (writer_contents W.contents w.old) (writer_contents W.contents w.new) result }
     ensures flushed { OnOk result (writer_buffer w.old ≡ [] → writer_buffer w.new ≡ []) }
 {

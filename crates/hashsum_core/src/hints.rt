@@ -47,8 +47,8 @@ fn digits_in_front(line: &[u8]) -> usize
 }
 
 /// The same with a line more, without its end.
-pub(crate) fn with_line(lines: Untagged, line: &[u8], came: &LineCheck<'_>) -> Untagged
-    ensures { result ≡ with_line lines line.now came.entry.now }
+pub(crate) fn with_line(lines: Untagged, line: &[u8], came: &LineCheck) -> Untagged
+    ensures { result ≡ with_line lines line.now came.now }
 {
     let digits = digits_in_front(line);
     match came {

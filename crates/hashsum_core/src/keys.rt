@@ -1,16 +1,10 @@
-//! poly61 and SipHash of files: the two keys in a key file, and the hash of what a reader gives.
-ghost use Rattle.std.specs.Prelude.{◌<◌, ◌≤◌, IfOk, IfSome, IsSome, MatchOption};
+//! Which two keys a key file may have.
+ghost use Rattle.std.specs.Prelude.{IsSome, MatchOption};
 ghost use Rattle.std.specs.Option.{option_map};
-ghost use Rattle.hash_names.specs.Limited.{Hashes, read};
-ghost use Rattle.hashsum_core.specs.Keys.{AreKeysFor, HasKeys, IsKeyRead, IsKeyText, MayBeKeys};
-ghost use Rattle.hashsum_core.specs.Sums.{poly61_at_both, siphash24_at};
+ghost use Rattle.hashsum_core.specs.Keys.{AreKeysFor, MayBeKeys};
 
 use cli::folder::Folder;
-use hash_blocks::siphash::{SipHasher24, SipKey};
-use hash_keyed::pair::Poly61Pair;
-use hash_kinds::reading::Unhashed;
-use hashers::reader::hash_stream;
-use std::io;
+use cli::keys::keys_of;
 use std::io::{Error, ErrorKind, Read};
 
 /// The prime of poly61.
@@ -23,103 +17,6 @@ pub enum KeyRule {
     Any,
     /// Those that `poly61` takes.
     Poly61,
-}
-
-/// poly61 under two keys of what is read, the hash at the first key above that at the second.
-pub(crate) fn hash_of_poly61<R: Read, const N: usize>(
-    keys: (u64, u64),
-    limit: u64,
-    r: &mut R,
-) -> Result<u128, Unhashed>
-    requires not_empty { 0 < N }
-    requires small { N ≤ 65536 }
-    ensures { Hashes (poly61_at_both keys) (read limit R.remaining r.old r.new) result }
-{
-    let mut pair = Poly61Pair::new(keys.0, keys.1);
-    match hash_stream::<Poly61Pair, R, N>(&mut pair, r, limit) {
-        Err(fault) => Err(Unhashed::ReadFault(fault)),
-        Ok(taken) => {
-            if !taken.ended {
-                return Err(Unhashed::TooLong);
-            }
-            let (high, low) = pair.finish();
-            Ok(u128::from(high) * (1 << 64) + u128::from(low))
-        }
-    }
-}
-
-/// SipHash-2-4 of what is read, under a key of these two words.
-pub(crate) fn hash_of_siphash24<R: Read, const N: usize>(
-    keys: (u64, u64),
-    limit: u64,
-    r: &mut R,
-) -> Result<u64, Unhashed>
-    requires not_empty { 0 < N }
-    requires small { N ≤ 65536 }
-    ensures { Hashes (siphash24_at keys) (read limit R.remaining r.old r.new) result }
-{
-    let (k0, k1) = keys;
-    let mut hasher = SipHasher24::new(SipKey { k0, k1 });
-    match hash_stream::<SipHasher24, R, N>(&mut hasher, r, limit) {
-        Err(fault) => Err(Unhashed::ReadFault(fault)),
-        Ok(taken) => {
-            if taken.ended {
-                Ok(hasher.hash())
-            } else {
-                Err(Unhashed::TooLong)
-            }
-        }
-    }
-}
-
-/// Why a file has no keys that has more or fewer bytes.
-fn not_sixteen() -> Error {
-    Error::new(ErrorKind::InvalidData, "a key file must have 16 bytes")
-}
-
-/// Reads one key.
-fn read_key<R: Read>(r: &mut R) -> io::Result<u64>
-    ensures { IfOk result (IsKeyRead (R.remaining r.old) (R.remaining r.new)) }
-{
-    let mut bytes = [0; 8];
-    match r.read_exact(&mut bytes) {
-        Ok(()) => Ok(u64::from_le_bytes(bytes)),
-        Err(error) => match error.kind() {
-            ErrorKind::UnexpectedEof => Err(not_sixteen()),
-            _ => Err(error),
-        },
-    }
-}
-
-/// The keys in what a reader gives.
-fn read_keys<R: Read>(r: &mut R) -> io::Result<(u64, u64)>
-    ensures { IfOk result (IsKeyText (R.remaining r.old)) }
-{
-    let first = read_key(r)?;
-    let second = read_key(r)?;
-    match r.read(&mut [0; 1]) {
-        Ok(0) => Ok((first, second)),
-        Ok(_) => Err(not_sixteen()),
-        Err(error) => Err(error),
-    }
-}
-
-/// The keys in the file of that name: it has 16 bytes, the lowest byte of each key first. `None` if it has not, or cannot
-/// be read.
-pub fn keys_of<R: Read + Drop, F: Folder<R>>(folder: &F, name: &[u8]) -> Option<(u64, u64)>
-    ensures { IfSome result (HasKeys (F.opens folder.now name.now)) }
-{
-    let keys = match folder.open(name) {
-        Ok(mut file) => read_keys(&mut file),
-        Err(error) => Err(error),
-    };
-    match keys {
-        Ok(keys) => Some(keys),
-        Err(error) => {
-            folder.failed(name, &error);
-            None
-        }
-    }
 }
 
 /// What is wrong with two keys by a rule, if something is.

@@ -15,7 +15,6 @@ ghost use Rattle.hashers.specs.Fx.{words32, words64};
 ghost use Rattle.hashers.specs.Text.{IsText};
 ghost use Rattle.hash_laws.specs.DifferWithin.{DifferInOneBlock};
 ghost use Rattle.hash_theorems.specs.Xxh32Words.{DifferInOneWord};
-ghost use Rattle.hash_lines.specs.declared.line.LineKind.{LineKind};
 ghost use Rattle.hash_lines.specs.declared.line.Form.{Form};
 ghost use Rattle.hash_lines.specs.Told.{AreTags, MayBeTold, Tells};
 ghost use Rattle.hash_theorems.specs.Bursts.{DifferWithinBits};
@@ -31,17 +30,18 @@ ghost use Rattle.hashsum_core.specs.Passed.{HasHash, HasPassed, LineTells, ListT
 ghost use Rattle.hashsum_core.specs.Program.{asks_for_poly61, asks_for_siphash24, checking_of, taken, EndsTask, EndsCall};
 ghost use Rattle.hash_kinds.specs.Named.{bits_of, hash_of, read_of};
 ghost use Rattle.hash_lines.specs.Line.{digits_of, line_of};
-ghost use Rattle.hashsum_core.specs.Sums.{is_named, kind_of, kinds, name_in, number_named, poly61_at_both, siphash24_at, sum_by, sum_of, takes_keys, told_of, width_in, Told};
+ghost use Rattle.hash_lines.specs.Sums.{is_named, kind_of, kinds, name_in, number_named, poly61_at_both, siphash24_at, sum_of, takes_keys, width_in};
+ghost use Rattle.hashsum_core.specs.Files.{sum_under};
 ghost use Rattle.hash_kinds.specs.declared.table.Kind.{Kind};
 ghost use Rattle.hash_kinds.specs.declared.table.Kind.TheVariants as row;
-ghost use Rattle.hashsum_core.specs.declared.sums.Sum.{Sum};
-ghost use Rattle.hashsum_core.specs.declared.sums.Sum.TheVariants.{Table};
+ghost use Rattle.hash_lines.specs.declared.sums.Sum.{Sum};
+ghost use Rattle.hash_lines.specs.declared.sums.Sum.TheVariants.{Table};
 
-use crate::sums::{Sum, Wide};
 use cli::folder::Folder;
 use hash_keyed::laws::few_pairs_for_two_texts;
 use hash_kinds::table::Kind;
 use hash_lines::laws::{tags_by_their_names, written_lines_tell};
+use hash_lines::sums::{Sum, Wide};
 use hash_more::crc32::{Crc32Hasher, Crc32cHasher};
 use hash_more::djb2_add::Djb2AddHasher;
 use hash_more::elf::ElfHasher;
@@ -72,17 +72,15 @@ pub fn each_kind_has_the_hash_of_its_name()
 /// The hashes that a line can tell have tags, no two the same: so what is written of a file whose name has a byte is read as that, and
 /// says one thing.
 pub fn kinds_are_tags()
-    ensures { (keys : Option (ℕ × ℕ)) (told : List LineKind) (default : LineKind)
-        → map told_of told ≡ kinds keys → AreTags told default }
+    ensures { (keyed : Bool) (default : Sum) → AreTags (kinds keyed) default }
 {
     tags_by_their_names();
 }
 
 /// Each hash that a line can tell is found by its name, in letters of either case.
 pub fn each_name_is_found()
-    ensures { (keys : Option (ℕ × ℕ)) (told : List LineKind) → map told_of told ≡ kinds keys
-        → (hash : Told) → Contains (kinds keys) hash → (word : List ℕ) → is_named word hash.name ≡ true
-        → (kind : LineKind) × (kind_of told (Some word) ≡ Some kind) × (told_of kind ≡ hash) }
+    ensures { (keyed : Bool) (sum : Sum) → Contains (kinds keyed) sum → (word : List ℕ)
+        → is_named word (name_in sum) ≡ true → kind_of (kinds keyed) (Some word) ≡ Some sum }
 {}
 
 /// The hash of each text, in one call and as it is read, is below 2 to the power of the bits that the table has of it.
@@ -107,9 +105,8 @@ pub fn each_hash_fits()
 /// The number of each text has as many digits as its line gives it: so a line that is written with escapes, of a file whose name has a
 /// byte, is read back.
 pub fn each_number_has_its_digits()
-    ensures { (kind : LineKind) (sum : Sum) (text : List ℕ)
-        → kind.keys.0 < 2 ^ 64 → kind.keys.1 < 2 ^ 64 → IsText text
-        → sum_of kind.keys sum text < 16 ^ digits_of (width_in sum) }
+    ensures { (keys : ℕ × ℕ) (sum : Sum) (text : List ℕ) → keys.0 < 2 ^ 64 → keys.1 < 2 ^ 64 → IsText text
+        → sum_of keys sum text < 16 ^ digits_of (width_in sum) }
 {
     each_hash_fits();
 }
@@ -117,11 +114,10 @@ pub fn each_number_has_its_digits()
 /// What is written of a file that holds a text, and whose name has a byte, tells the hash of this text, in either form, with escapes or
 /// without.
 pub fn what_is_written_of_a_text_tells_its_hash()
-    ensures { (keys : Option (ℕ × ℕ)) (told : List LineKind) (default kind : LineKind) (form : Form)
-        → map told_of told ≡ kinds keys → Contains told kind → MayBeTold told default form kind
-        → kind.keys.0 < 2 ^ 64 → kind.keys.1 < 2 ^ 64
-        → (escapes : Bool) (name text : List ℕ) → name ≢ [] → IsText text → let number = sum_by kind text in
-        Tells told default kind name number (line_of form escapes kind.name.now kind.width name number) }
+    ensures { (keys : ℕ × ℕ) (kinds : List Sum) (default kind : Sum) (form : Form) → MayBeTold kinds default form kind
+        → keys.0 < 2 ^ 64 → keys.1 < 2 ^ 64
+        → (escapes : Bool) (name text : List ℕ) → name ≢ [] → IsText text → let number = sum_of keys kind text in
+        Tells kinds default kind name number (line_of form escapes kind name number) }
 {
     each_number_has_its_digits();
     written_lines_tell();
@@ -212,7 +208,7 @@ pub fn few_pairs_pass_another_text<R: Read, F: Folder<R>>()
 /// file was opened and the text that was read of it has this hash, or it is not there and such files are left out. Of at least
 /// one line of each list, the file has the hash.
 pub fn lists_that_pass<R: Read, F: Folder<R>>()
-    ensures { (folder : F) (kinds : List LineKind) (checking : Checking) (lists : List (List ℕ))
+    ensures { (folder : F) (kinds : List Sum) (checking : Checking) (lists : List (List ℕ))
         (written written' : Option (List ℕ))
         → EndsLists kinds checking (F.opens folder) lists written written' (Ok true)
         → All (HasPassed kinds checking (F.opens folder)) lists }
@@ -222,10 +218,10 @@ pub fn lists_that_pass<R: Read, F: Folder<R>>()
 /// tells a hash, in any form, the file was opened and the text that was read of it has this hash, or it is not there and such files are
 /// left out; none needs keys that are not given. Of at least one line of each list, the file has the hash.
 pub fn a_check_that_ends_well<R: Read, F: Folder<R>>()
-    ensures { (folder : F) (kinds : List LineKind) (checking : Checking) (lists : List (List ℕ))
+    ensures { (folder : F) (checking : Checking) (lists : List (List ℕ))
         (written written' : Option (List ℕ)) (outcome : Outcome Misuse Nothing)
-        → EndsTask kinds (F.opens folder) lists written written' (Ok (Check checking)) outcome
-        → status_of outcome ≡ 0 → All (HasPassed (taken kinds checking) checking (F.opens folder)) lists }
+        → EndsTask (F.opens folder) lists written written' (Ok (Check checking)) outcome
+        → status_of outcome ≡ 0 → All (HasPassed (taken checking) checking (F.opens folder)) lists }
 {}
 
 /// The same of a call with `-c`: nothing else is wrong with it, and its lists passed, with lines of the hash alone that `-a` or a key file
@@ -242,13 +238,13 @@ pub fn a_call_that_ends_well<R: Read, F: Folder<R>>()
 /// or it is not there and such files are left out. The hashes that can be told have tags, no two the same. `read` speaks of the lines
 /// that were read of a list, `told` of lists whose text the folder tells, and so of none on the disk.
 pub fn what_a_list_tells_is_so<R: Read, F: Folder<R>>()
-    ensures read { (folder : F) (kinds : List LineKind) (checking : Checking)
-        (list : List ℕ) (kind : LineKind) (name : List ℕ) (number : ℕ) → AreTags kinds checking.kind
+    ensures read { (folder : F) (kinds : List Sum) (checking : Checking)
+        (list : List ℕ) (kind : Sum) (name : List ℕ) (number : ℕ) → AreTags kinds checking.kind
         → (passed : HasPassed kinds checking (F.opens folder) list) (line : List ℕ)
         → Contains (map (λ line. line.0) passed.lines) line → LineTells kinds checking list line kind name number
         → HasHash checking (F.opens folder) kind name number }
-    ensures told { (folder : F) (kinds : List LineKind) (checking : Checking)
-        (list : List ℕ) (kind : LineKind) (name : List ℕ) (number : ℕ)
+    ensures told { (folder : F) (kinds : List Sum) (checking : Checking)
+        (list : List ℕ) (kind : Sum) (name : List ℕ) (number : ℕ)
         → AreTags kinds checking.kind → HasPassed kinds checking (F.opens folder) list
         → ListTells kinds checking (F.opens folder) list kind name number
         → HasHash checking (F.opens folder) kind name number }
@@ -258,17 +254,16 @@ pub fn what_a_list_tells_is_so<R: Read, F: Folder<R>>()
 pub fn what_a_call_is_told_is_so<R: Read, F: Folder<R>>()
     ensures { (folder : F) (call : List Saying) → (ended : HasEndedWell (F.opens folder) call)
         → (list : List ℕ) → Contains (files_or (operands call)) list
-        → (kind : LineKind) (name : List ℕ) (number : ℕ) → let checking = checking_of call ended.kind in
-        ListTells (taken ended.told checking) checking (F.opens folder) list kind name number
+        → (kind : Sum) (name : List ℕ) (number : ℕ) → let checking = checking_of call ended.keys ended.kind in
+        ListTells (taken checking) checking (F.opens folder) list kind name number
         → HasHash checking (F.opens folder) kind name number }
 {
     kinds_are_tags();
 }
 
 /// Where one hash is asked for, each line that is checked is of that hash, in whichever form it is.
-#[tactic(auto, using(crate::proofs::AskedLemmas::any_one))]
 pub fn lines_of_one_hash()
-    ensures { (sfv : Bool) (kind other : LineKind) (name : List ℕ) (number : ℕ) (line : List ℕ)
+    ensures { (sfv : Bool) (kind other : Sum) (name : List ℕ) (number : ℕ) (line : List ℕ)
         → TellsAny sfv (kind ∷ []) kind other name number line → other ≡ kind }
 {}
 
@@ -276,10 +271,10 @@ pub fn lines_of_one_hash()
 pub fn lines_under_the_keys<R: Read, F: Folder<R>>()
     ensures poly61 { (folder : F) (call : List Saying) → asks_for_poly61 call ≡ true
         → (ended : HasEndedWell (F.opens folder) call) → (keys : ℕ × ℕ) × GivesKeys (F.opens folder) call keys
-        × ArePoly61Keys keys × (sum_by ended.kind ≡ poly61_at_both keys) }
+        × ArePoly61Keys keys × (sum_under ended.keys ended.kind ≡ poly61_at_both keys) }
     ensures siphash24 { (folder : F) (call : List Saying) → asks_for_siphash24 call ≡ true
         → (ended : HasEndedWell (F.opens folder) call) → (keys : ℕ × ℕ) × GivesKeys (F.opens folder) call keys
-        × (sum_by ended.kind ≡ siphash24_at keys) }
+        × (sum_under ended.keys ended.kind ≡ siphash24_at keys) }
 {}
 
 /// What `seen` says of a ported hash.

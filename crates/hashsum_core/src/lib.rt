@@ -10,6 +10,5 @@ pub mod laws;
 pub mod outcome;
 pub mod reports;
 pub mod sum;
-pub mod sums;
 
 pub use failure::Failure;

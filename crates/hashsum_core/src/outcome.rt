@@ -1,12 +1,8 @@
 //! What the program `hashsum` is asked for, and how it ends.
-ghost use Rattle.std.specs.Prelude.{◌≡◌, ◌⊎◌, [], map, IfOk, IsSome, MatchOption, OnOk};
+ghost use Rattle.std.specs.Prelude.{◌≡◌, [], map, IfOk, IsSome, MatchOption, OnOk};
 ghost use Rattle.std.specs.Option.{option_map};
 ghost use Rattle.std.specs.Io.Buffered.{writer_buffer, writer_contents};
-ghost use Rattle.std.specs.Io.KnownBytes.{Keeps};
-ghost use Rattle.streams.specs.declared.failure.Failure.TheVariants.{NoMemory};
-ghost use Rattle.cli.specs.declared.outcome.Outcome.TheVariants.{Failed};
-ghost use Rattle.cli.specs.Call.{call_of, choices, operands, sayings, texts};
-ghost use Rattle.cli.specs.Files.{files_or};
+ghost use Rattle.cli.specs.Call.{call_of, choices, sayings, texts};
 ghost use Rattle.cli.specs.Frame.{text_of};
 ghost use Rattle.cli.specs.Outcome.{IsFlushed};
 ghost use Rattle.hashsum_core.specs.Keys.{AreKeysFor};
@@ -18,13 +14,13 @@ use crate::failure::Failure;
 use crate::keys::{KeyRule, keys_for};
 use crate::reports::Reports;
 use crate::sum::{Summing, sum_files};
-use crate::sums::{is_named, kind_of, kinds};
 use cli::call::{Call, Opt, flag, taking};
 use cli::folder::{Folder, files};
 use cli::frame::{About, Request, request_of, text_of};
 use cli::outcome;
 use cli::outcome::{Words, of_run, of_telling};
-use hash_lines::line::{Form, LineKind};
+use hash_lines::line::Form;
+use hash_lines::sums::{Sum, is_named, kind_of, kinds};
 use std::alloc::{AllocError, Global};
 use std::io::{BufWriter, Read, Write};
 use streams::failure::Nothing;
@@ -36,7 +32,7 @@ pub enum Task {
     /// The line of each file.
     Sum(Summing),
     /// Whether files have the hashes that lines tell.
-    Check(Checking<'static>),
+    Check(Checking),
 }
 
 /// What else is wrong with a call.
@@ -147,13 +143,13 @@ fn asked<'a>(call: &Call<'a>) -> Option<&'a [u8]>
 }
 
 /// How lines are checked.
-fn checking_of(call: &Call<'_>, kind: LineKind<'static>) -> Checking<'static>
-    ensures { result ≡ checking_of (sayings call.now.said.items) kind.entry }
+fn checking_of(call: &Call<'_>, keys: Option<(u64, u64)>, kind: Sum) -> Checking
+    ensures { result ≡ checking_of (sayings call.now.said.items) keys kind }
 {
     Checking {
         kind,
+        keys,
         only: asked(call).is_some(),
-        keyed: call.gives(b"key-file"),
         quiet: call.gives(b"quiet"),
         status: call.gives(b"status"),
         strict: call.gives(b"strict"),
@@ -163,11 +159,12 @@ fn checking_of(call: &Call<'_>, kind: LineKind<'static>) -> Checking<'static>
 }
 
 /// How files are summed.
-fn summing_of(call: &Call<'_>, kind: LineKind<'static>) -> Summing
-    ensures { result ≡ summing_of (sayings call.now.said.items) kind.entry }
+fn summing_of(call: &Call<'_>, keys: Option<(u64, u64)>, kind: Sum) -> Summing
+    ensures { result ≡ summing_of (sayings call.now.said.items) keys kind }
 {
     Summing {
         kind,
+        keys,
         form: if call.gives_last(b"untagged", b"tag") {
             Form::Untagged
         } else {
@@ -244,23 +241,23 @@ fn misuse_of(call: &Call<'_>) -> Option<Misuse>
     None
 }
 
-/// What is to be done by a hash of this kind.
-fn work_of(call: &Call<'_>, kind: LineKind<'static>) -> Task
-    ensures { result ≡ work_of (sayings call.now.said.items) kind.entry }
+/// What is to be done by this hash.
+fn work_of(call: &Call<'_>, keys: Option<(u64, u64)>, kind: Sum) -> Task
+    ensures { result ≡ work_of (sayings call.now.said.items) keys kind }
 {
     if call.gives(b"check") {
-        Task::Check(checking_of(call, kind))
+        Task::Check(checking_of(call, keys, kind))
     } else {
-        Task::Sum(summing_of(call, kind))
+        Task::Sum(summing_of(call, keys, kind))
     }
 }
 
-/// Which work a call asks for.
-fn task_of(kinds: &[LineKind<'static>], call: &Call<'_>) -> Result<Task, Wrong>
-    ensures { result ≡ task_of kinds.now (sayings call.now.said.items) }
+/// Which work a call asks for, under the keys in its key file.
+fn task_of(call: &Call<'_>, keys: Option<(u64, u64)>) -> Result<Task, Wrong>
+    ensures { result ≡ task_of (sayings call.now.said.items) keys }
 {
-    match kind_of(kinds, asked(call)) {
-        Some(kind) => Ok(work_of(call, kind)),
+    match kind_of(kinds(true), asked(call)) {
+        Some(kind) => Ok(work_of(call, keys, kind)),
         None => Err(Wrong::UnknownName),
     }
 }
@@ -269,12 +266,11 @@ fn task_of(kinds: &[LineKind<'static>], call: &Call<'_>) -> Result<Task, Wrong>
 fn check_taken<R: Read + Drop, F: Folder<R> + Reports, W: Write + Drop>(
     alloc: Global,
     folder: &F,
-    kinds: &[LineKind<'static>],
-    checking: Checking<'static>,
+    checking: Checking,
     lists: &[&[u8]],
     w: &mut BufWriter<W>,
 ) -> Result<bool, Failure>
-    ensures told { EndsLists (taken kinds.now checking.entry) checking.entry (F.opens folder.now)
+    ensures told { EndsLists (taken checking) checking (F.opens folder.now)
         (map (λ list. list.now) lists.now)
         (writer_contents W.contents w.old) (writer_contents W.contents w.new) result }
     ensures flushed { OnOk result (writer_buffer w.old ≡ [] → writer_buffer w.new ≡ []) }
@@ -282,25 +278,24 @@ fn check_taken<R: Read + Drop, F: Folder<R> + Reports, W: Write + Drop>(
     if checking.only {
         return check_lists(alloc, folder, &[checking.kind], checking, lists, w);
     }
-    check_lists(alloc, folder, kinds, checking, lists, w)
+    check_lists(alloc, folder, kinds(true), checking, lists, w)
 }
 
 /// Does a task over these files.
 fn ended<R: Read + Drop, F: Folder<R> + Reports, W: Write + Drop>(
     alloc: Global,
     folder: &F,
-    kinds: &[LineKind<'static>],
     files: &[&[u8]],
     task: Result<Task, Wrong>,
     w: &mut BufWriter<W>,
 ) -> Outcome
-    ensures ended { EndsTask kinds.now (F.opens folder.now) (map (λ file. file.now) files.now)
+    ensures ended { EndsTask (F.opens folder.now) (map (λ file. file.now) files.now)
         (writer_contents W.contents w.old) (writer_contents W.contents w.new) task result }
     ensures flushed { writer_buffer w.old ≡ [] → IsFlushed (writer_buffer w.new) result }
 {
     match task {
         Ok(Task::Sum(summing)) => of_run(sum_files(alloc, folder, summing, files, w)),
-        Ok(Task::Check(checking)) => of_run(check_taken(alloc, folder, kinds, checking, files, w)),
+        Ok(Task::Check(checking)) => of_run(check_taken(alloc, folder, checking, files, w)),
         Err(wrong) => Outcome::Usage(wrong),
     }
 }
@@ -317,28 +312,8 @@ fn keys_of_call<R: Read + Drop, F: Folder<R>>(
     keys_for(folder, call.value(b"key-file"), key_rule(call))
 }
 
-/// Does the work of a call over its files, by hashes of these kinds.
-fn worked_by<R: Read + Drop, F: Folder<R> + Reports, W: Write + Drop>(
-    alloc: Global,
-    folder: &F,
-    kinds: &[LineKind<'static>],
-    call: &Call<'_>,
-    w: &mut BufWriter<W>,
-) -> Outcome
-    ensures ended { EndsTask kinds.now (F.opens folder.now) (files_or (operands (sayings call.now.said.items)))
-        (writer_contents W.contents w.old) (writer_contents W.contents w.new)
-        (task_of kinds.now (sayings call.now.said.items)) result
-        ⊎ ((result ≡ Failed NoMemory) × Keeps (writer_contents W.contents w.old) (writer_contents W.contents w.new)) }
-    ensures flushed { writer_buffer w.old ≡ [] → IsFlushed (writer_buffer w.new) result }
-{
-    match files(alloc, call) {
-        Ok(files) => ended(alloc, folder, kinds, &files, task_of(kinds, call), w),
-        Err(_) => Outcome::Failed(Failure::NoMemory),
-    }
-}
-
-/// Does the work of a call, by the hashes that can be told, and by those that take keys under the keys of its key file. If that has no
-/// such keys, or there is no memory for the files, nothing is written.
+/// Does the work of a call, under the keys of its key file. If that has no such keys, or there is no memory for the files, nothing is
+/// written.
 fn worked<R: Read + Drop, F: Folder<R> + Reports, W: Write + Drop>(
     alloc: Global,
     folder: &F,
@@ -349,12 +324,12 @@ fn worked<R: Read + Drop, F: Folder<R> + Reports, W: Write + Drop>(
         (writer_contents W.contents w.old) (writer_contents W.contents w.new) result }
     ensures flushed { writer_buffer w.old ≡ [] → IsFlushed (writer_buffer w.new) result }
 {
-    match keys_of_call(folder, call) {
-        None => Outcome::Reported,
-        Some(keys) => match kinds(alloc, Some(keys.unwrap_or((0, 0)))) {
-            Ok(kinds) => worked_by(alloc, folder, &kinds, call, w),
-            Err(_) => Outcome::Failed(Failure::NoMemory),
-        },
+    let Some(keys) = keys_of_call(folder, call) else {
+        return Outcome::Reported;
+    };
+    match files(alloc, call) {
+        Ok(files) => ended(alloc, folder, &files, task_of(call, keys), w),
+        Err(_) => Outcome::Failed(Failure::NoMemory),
     }
 }
 

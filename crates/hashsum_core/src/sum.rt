@@ -3,15 +3,14 @@ ghost use Rattle.std.specs.Prelude.{◌≡◌, [], map, IfOk, OnOk, OnErr};
 ghost use Rattle.std.specs.Io.Buffered.{writer_buffer, writer_contents};
 ghost use Rattle.std.specs.Io.KnownBytes.{Appends};
 ghost use Rattle.streams.specs.Streams.{AppendsPart};
-ghost use Rattle.hashsum_core.specs.Files.{SumsFile};
+ghost use Rattle.hashsum_core.specs.Files.{SumsFile, sum_under};
 ghost use Rattle.hashsum_core.specs.Summing.{EndsSum, EndsSums, sum_line};
-ghost use Rattle.hashsum_core.specs.Sums.{sum_by};
 
 use crate::failure::Failure;
-use crate::sums::number_by;
 use cli::folder::Folder;
 use hash_kinds::reading::Unhashed;
-use hash_lines::line::{Form, LineKind, push_line};
+use hash_lines::line::{Form, push_line};
+use hash_lines::sums::{NO_KEYS, Sum, number_by};
 use std::alloc::{AllocError, Global};
 use std::io::{BufWriter, Error, ErrorKind, Read, Write};
 use streams::tries::write_out;
@@ -20,7 +19,9 @@ use streams::tries::write_out;
 #[derive(Clone, Copy)]
 pub struct Summing {
     /// By which hash.
-    pub kind: LineKind<'static>,
+    pub kind: Sum,
+    /// The keys for a hash that takes them, if there are any.
+    pub keys: Option<(u64, u64)>,
     /// In lines of which form.
     pub form: Form,
     /// Whether lines end with a zero byte and have no escapes.
@@ -45,23 +46,20 @@ pub(crate) fn error_of(unsummed: Unsummed) -> Error {
             ErrorKind::FileTooLarge,
             "file too large",
         ),
-        Unsummed::Unhashed(Unhashed::UnknownName) => Error::new(
-            ErrorKind::InvalidInput,
-            "unknown hash",
-        ),
     }
 }
 
-/// The number of the file of that name, by a hash.
+/// The number of the file of that name, by a hash, under these keys if it takes keys.
 pub fn number_of<R: Read + Drop, F: Folder<R>>(
     folder: &F,
-    kind: LineKind<'_>,
+    kind: Sum,
+    keys: Option<(u64, u64)>,
     name: &[u8],
 ) -> Result<u128, Unsummed>
-    ensures { SumsFile (F.opens folder.now name.now) (sum_by kind.entry) result }
+    ensures { SumsFile (F.opens folder.now name.now) (sum_under keys kind) result }
 {
     match folder.open(name) {
-        Ok(mut file) => match number_by(kind, u64::MAX, &mut file) {
+        Ok(mut file) => match number_by(kind, keys.unwrap_or(NO_KEYS), u64::MAX, &mut file) {
             Ok(number) => Ok(number),
             Err(unhashed) => Err(Unsummed::Unhashed(unhashed)),
         },
@@ -123,7 +121,7 @@ fn sum_file<R: Read + Drop, F: Folder<R>, W: Write + Drop>(
         (writer_contents W.contents w.old) (writer_contents W.contents w.new) result }
     ensures flushed { OnOk result (writer_buffer w.old ≡ [] → writer_buffer w.new ≡ []) }
 {
-    match number_of(folder, summing.kind, name) {
+    match number_of(folder, summing.kind, summing.keys, name) {
         Ok(number) => match tell_sum(alloc, summing, name, number, w) {
             Ok(()) => Ok(true),
             Err(fault) => Err(fault),

@@ -150,6 +150,7 @@ pub mod hash_lines;
 #[doc(hidden)]
 pub mod streams {
     pub mod failure;
+    pub mod hex;
     pub mod tries;
 }
 #[cfg(feature = "std")]

@@ -4,7 +4,8 @@
 use crate::std;
 use hashers_proved::{hash_kinds, hash_names, hashers};
 
-use hash_kinds::table::{Kind, by_kind, kind_at};
+use crate::hash_c::kinds::kind_at;
+use hash_kinds::table::{Kind, by_kind};
 use hash_names::task::HashTask;
 use hashers::laws::{Piecewise, Streamed, hash_of};
 use std::marker::PhantomData;

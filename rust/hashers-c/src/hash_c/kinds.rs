@@ -4,10 +4,43 @@
 use crate::std;
 use hashers_proved::{hash_kinds, hash_names, hashers};
 
-use hash_kinds::table::{by_kind, kind_at, number_named};
+use hash_kinds::table::{KINDS, Kind, by_kind};
 use hash_names::task::HashTask;
 use hashers::laws::{Piecewise, Streamed, hash_of};
 use std::marker::PhantomData;
+
+/// The place of the first of that name; as many as there are where none has it.
+///
+/// Proved:
+///
+/// ```text
+/// first: slice_get kinds.now result ≡ find (λ kind. bytes_eq (named kind) name.now) kinds.now
+/// within: result ≤ length kinds.now
+/// ```
+#[inline]
+fn first_place(kinds: &[Kind], name: &[u8]) -> usize {
+    for (place, kind) in kinds.iter().enumerate() {
+        if kind.row().name.as_bytes() == name {
+            return place;
+        }
+    }
+    kinds.len()
+}
+
+/// The hash of that number.
+///
+/// Proved:
+///
+/// ```text
+/// result ≡ kind_at number
+/// ```
+#[inline]
+pub(crate) fn kind_at(number: u32) -> Option<Kind> {
+    match KINDS.get(number as usize) {
+        Some(kind) => Some(*kind),
+        None => None,
+    }
+}
 
 /// The number of the hash of that name; where no hash has the name, a number that no hash has.
 ///
@@ -18,7 +51,7 @@ use std::marker::PhantomData;
 /// ```
 #[inline]
 pub fn hashers_kind(name: &[u8]) -> u32 {
-    number_named(name)
+    first_place(&KINDS, name) as u32
 }
 
 /// The name of the hash of that number.

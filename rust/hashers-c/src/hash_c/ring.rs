@@ -3,10 +3,9 @@
 //! their nodes. Node `i` is the one with the name number `i` in the order of bytes. Which names there are the caller keeps.
 
 // What follows is the proved text of crates/hash_c/src/ring.rt without its contracts.
-use hashers_proved::{hash_kinds, hash_ring};
+use hashers_proved::hash_ring;
 
-use crate::hash_c::kinds::hashers_hash;
-use hash_kinds::table::kind_at;
+use crate::hash_c::kinds::{hashers_hash, kind_at};
 use hash_ring::points::{self, Point};
 
 /// Writes the points of a node, as many as there is room for, in order. The text is the node's name with 8 bytes more, which are written

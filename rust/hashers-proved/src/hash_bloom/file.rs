@@ -5,11 +5,10 @@
 //! 64 bits of all before, in 8 bytes like a word.
 
 // What follows is the proved text of crates/hash_bloom/src/file.rt without its contracts.
-use crate::{hash_lines, hashers, streams};
+use crate::{hashers, streams};
 use crate::shim::{Vec, std};
 
 use crate::hash_bloom::{Bloom, NoFilter};
-use hash_lines::hex::{MOST_DIGITS, hex_number, push_hex, put_hex};
 use hashers::fnv::FNV1aHasher64;
 use hashers::laws::Piecewise;
 use std::alloc::Global;
@@ -19,6 +18,7 @@ use std::hash::Hasher;
 use std::io::{Error, ErrorKind, Read, Write};
 use std::{fmt, io};
 use streams::failure::Failure;
+use streams::hex::{MOST_DIGITS, hex_number, push_hex, put_hex};
 use streams::tries::{TRIES, write_all};
 
 /// What the file begins with: whose it is, and its form's version.

@@ -50,7 +50,7 @@ pub enum Kind {
     Xxh3,
 }
 
-/// The hashes in their order, by which they are numbered from 0.
+/// The hashes in their order, by which C numbers them from 0.
 pub const KINDS: [Kind; 29] = [
     // declared: kinds
     Kind::Ported(Ported::Fnv1a32),
@@ -148,34 +148,21 @@ pub fn by_kind<T: HashTask>(kind: Kind, told: T::Told, input: &mut T::Input) -> 
     }
 }
 
-/// The place of the first of that name; as many as there are where none has it.
+/// The first of that name.
 ///
 /// Proved:
 ///
 /// ```text
-/// first: slice_get kinds.now result ≡ find (λ kind. bytes_eq (name_of kind) name.now) kinds.now
-/// within: result ≤ length kinds.now
+/// result ≡ find (λ kind. bytes_eq (name_of kind) name.now) kinds.now
 /// ```
 #[inline]
-fn first_place(kinds: &[Kind], name: &[u8]) -> usize {
-    for (place, kind) in kinds.iter().enumerate() {
+fn first_named(kinds: &[Kind], name: &[u8]) -> Option<Kind> {
+    for kind in kinds {
         if kind.row().name.as_bytes() == name {
-            return place;
+            return Some(*kind);
         }
     }
-    kinds.len()
-}
-
-/// The number of the hash of that name; where no hash has the name, a number that no hash has.
-///
-/// Proved:
-///
-/// ```text
-/// kind_at result ≡ kind_named name.now
-/// ```
-#[inline]
-pub fn number_named(name: &[u8]) -> u32 {
-    first_place(&KINDS, name) as u32
+    None
 }
 
 /// The hash of that name.
@@ -187,20 +174,5 @@ pub fn number_named(name: &[u8]) -> u32 {
 /// ```
 #[inline]
 pub fn kind_named(name: &[u8]) -> Option<Kind> {
-    kind_at(number_named(name))
-}
-
-/// The hash of that number.
-///
-/// Proved:
-///
-/// ```text
-/// result ≡ kind_at number
-/// ```
-#[inline]
-pub fn kind_at(number: u32) -> Option<Kind> {
-    match KINDS.get(number as usize) {
-        Some(kind) => Some(*kind),
-        None => None,
-    }
+    first_named(&KINDS, name)
 }

@@ -1,12 +1,13 @@
 //! Lines as other programs write them: as `md5sum` does with one blank, as `openssl dgst` does, and as SFV files have them.
 
 // What follows is the proved text of crates/hash_lines/src/forms.rt without its contracts.
+use crate::streams;
 use crate::shim::{Vec, std};
 
-use crate::hash_lines::hex::{MOST_DIGITS, digit_value};
-use crate::hash_lines::line::LineKind;
 use crate::hash_lines::parse::{HashLine, behind, parse_line, split_last};
+use crate::hash_lines::sums::Sum;
 use std::alloc::{AllocError, Global};
+use streams::hex::{MOST_DIGITS, digit_value};
 
 /// How many digits the CRC-32 of a line of an SFV file has.
 const SFV_DIGITS: usize = 8;
@@ -310,15 +311,15 @@ fn sfv_form(alloc: Global, line: &[u8]) -> Result<Option<Vec<u8>>, AllocError> {
 /// Proved:
 ///
 /// ```text
-/// IfOk result (FindsOf (Finds (Tells kinds.entry.now kind.entry)) plain)
+/// IfOk result (FindsOf (Finds (Tells kinds.now kind)) plain)
 /// ```
 #[inline]
-fn plain_entry<'k>(
+fn plain_entry(
     alloc: Global,
-    kinds: &[LineKind<'k>],
-    kind: LineKind<'k>,
+    kinds: &[Sum],
+    kind: Sum,
     plain: Option<Vec<u8>>,
-) -> Result<Option<HashLine<'k>>, AllocError> {
+) -> Result<Option<HashLine>, AllocError> {
     match plain {
         Some(plain) => parse_line(alloc, kinds, kind, &plain),
         None => Ok(None),
@@ -330,15 +331,15 @@ fn plain_entry<'k>(
 /// Proved:
 ///
 /// ```text
-/// IfOk result (Finds (TellsIn IsForm kinds.entry.now kind.entry) line.now)
+/// IfOk result (Finds (TellsIn IsForm kinds.now kind) line.now)
 /// ```
 #[inline]
-fn form_entry<'k>(
+fn form_entry(
     alloc: Global,
-    kinds: &[LineKind<'k>],
-    kind: LineKind<'k>,
+    kinds: &[Sum],
+    kind: Sum,
     line: &[u8],
-) -> Result<Option<HashLine<'k>>, AllocError> {
+) -> Result<Option<HashLine>, AllocError> {
     if let Some(entry) = parse_line(alloc, kinds, kind, line)? {
         return Ok(Some(entry));
     }
@@ -356,16 +357,16 @@ fn form_entry<'k>(
 /// Proved:
 ///
 /// ```text
-/// IfOk result (Finds (TellsSo sfv kinds.entry.now kind.entry) line.now)
+/// IfOk result (Finds (TellsSo sfv kinds.now kind) line.now)
 /// ```
 #[inline]
-pub fn parse_form<'k>(
+pub fn parse_form(
     alloc: Global,
-    kinds: &[LineKind<'k>],
-    kind: LineKind<'k>,
+    kinds: &[Sum],
+    kind: Sum,
     sfv: bool,
     line: &[u8],
-) -> Result<Option<HashLine<'k>>, AllocError> {
+) -> Result<Option<HashLine>, AllocError> {
     let rest = line.trim_ascii_start();
     if let Some(entry) = form_entry(alloc, kinds, kind, rest)? {
         return Ok(Some(entry));

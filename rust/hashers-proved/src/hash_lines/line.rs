@@ -3,11 +3,13 @@
 // What follows is the proved text of crates/hash_lines/src/line.rt without its contracts.
 // Clauses name MOST_DIGITS.
 #![allow(unused_imports)]
+use crate::streams;
 use crate::shim::{Vec, std};
 
 use crate::hash_lines::escape::{needs_escape, push_escaped};
-use crate::hash_lines::hex::{MOST_DIGITS, push_hex};
+use crate::hash_lines::sums::Sum;
 use std::alloc::AllocError;
+use streams::hex::{MOST_DIGITS, push_hex};
 
 /// How many hexadecimal digits the numbers of a hash have.
 #[derive(Clone, Copy)]
@@ -37,19 +39,6 @@ impl Width {
             Width::ThirtyTwo => 32,
         }
     }
-}
-
-/// A hash that a line may tell: its name, and how many digits its numbers have.
-#[derive(Clone, Copy)]
-pub struct LineKind<'a> {
-    /// The name.
-    pub name: &'a str,
-    /// How many digits its numbers have.
-    pub width: Width,
-    /// Which hash it is, by a number of the caller's.
-    pub which: u32,
-    /// The keys of a keyed hash; zeros for any other.
-    pub keys: (u64, u64),
 }
 
 /// How a line is written.
@@ -83,15 +72,14 @@ pub fn push_name(text: &mut Vec<u8>, escapes: bool, name: &[u8]) -> Result<(), A
 /// Proved:
 ///
 /// ```text
-/// OnOk result (text.new.items ≡ text.old.items
-///     ++ line_of form escapes kind.entry.name.now kind.entry.width name.now number)
+/// OnOk result (text.new.items ≡ text.old.items ++ line_of form escapes kind name.now number)
 /// ```
 #[inline]
 pub fn push_line(
     text: &mut Vec<u8>,
     form: Form,
     escapes: bool,
-    kind: LineKind<'_>,
+    kind: Sum,
     name: &[u8],
     number: u128,
 ) -> Result<(), AllocError> {
@@ -101,14 +89,14 @@ pub fn push_line(
     }
     match form {
         Form::Tagged => {
-            text.extend_from_slice(kind.name.as_bytes())?;
+            text.extend_from_slice(kind.name().as_bytes())?;
             text.extend_from_slice(b" (")?;
             push_name(text, escapes, name)?;
             text.extend_from_slice(b") = ")?;
-            push_hex(text, kind.width.digits(), number)
+            push_hex(text, kind.width().digits(), number)
         }
         Form::Untagged => {
-            push_hex(text, kind.width.digits(), number)?;
+            push_hex(text, kind.width().digits(), number)?;
             text.extend_from_slice(b"  ")?;
             push_name(text, escapes, name)
         }

@@ -3,17 +3,18 @@
 // What follows is the proved text of crates/hash_lines/src/parse.rt without its contracts.
 // Clauses name MOST_DIGITS.
 #![allow(unused_imports)]
+use crate::streams;
 use crate::shim::{Vec, std};
 
 use crate::hash_lines::escape::unescaped;
-use crate::hash_lines::hex::{MOST_DIGITS, hex_number};
-use crate::hash_lines::line::LineKind;
+use crate::hash_lines::sums::Sum;
 use std::alloc::{AllocError, Global};
+use streams::hex::{MOST_DIGITS, hex_number};
 
 /// What a line tells.
-pub struct HashLine<'k> {
+pub struct HashLine {
     /// Which hash.
-    pub kind: LineKind<'k>,
+    pub kind: Sum,
     /// Of which file.
     pub name: Vec<u8>,
     /// What it is.
@@ -208,16 +209,16 @@ fn name_of(alloc: Global, escapes: bool, shown: &[u8]) -> Result<Option<Vec<u8>>
 /// Proved:
 ///
 /// ```text
-/// IfOk result (FindsShown kind.entry number escapes shown.now)
+/// IfOk result (FindsShown kind number escapes shown.now)
 /// ```
 #[inline]
-fn entry_of<'k>(
+fn entry_of(
     alloc: Global,
-    kind: LineKind<'k>,
+    kind: Sum,
     escapes: bool,
     shown: &[u8],
     number: u128,
-) -> Result<Option<HashLine<'k>>, AllocError> {
+) -> Result<Option<HashLine>, AllocError> {
     match name_of(alloc, escapes, shown)? {
         Some(name) => Ok(Some(HashLine { kind, name, number })),
         None => Ok(None),
@@ -229,16 +230,16 @@ fn entry_of<'k>(
 /// Proved:
 ///
 /// ```text
-/// IfOk result (Finds (TellsOf kind.entry TellsTagged escapes) body.now)
+/// IfOk result (Finds (TellsOf kind TellsTagged escapes) body.now)
 /// ```
 #[inline]
-fn tagged_entry<'k>(
+fn tagged_entry(
     alloc: Global,
-    kind: LineKind<'k>,
+    kind: Sum,
     escapes: bool,
     body: &[u8],
-) -> Result<Option<HashLine<'k>>, AllocError> {
-    match tagged_parts(kind.name.as_bytes(), kind.width.digits(), body) {
+) -> Result<Option<HashLine>, AllocError> {
+    match tagged_parts(kind.name().as_bytes(), kind.width().digits(), body) {
         Some((shown, number)) => entry_of(alloc, kind, escapes, shown, number),
         None => Ok(None),
     }
@@ -249,16 +250,16 @@ fn tagged_entry<'k>(
 /// Proved:
 ///
 /// ```text
-/// IfOk result (Finds (TellsOf kind.entry TellsUntagged escapes) body.now)
+/// IfOk result (Finds (TellsOf kind TellsUntagged escapes) body.now)
 /// ```
 #[inline]
-fn untagged_entry<'k>(
+fn untagged_entry(
     alloc: Global,
-    kind: LineKind<'k>,
+    kind: Sum,
     escapes: bool,
     body: &[u8],
-) -> Result<Option<HashLine<'k>>, AllocError> {
-    match untagged_parts(kind.width.digits(), body) {
+) -> Result<Option<HashLine>, AllocError> {
+    match untagged_parts(kind.width().digits(), body) {
         Some((shown, number)) => entry_of(alloc, kind, escapes, shown, number),
         None => Ok(None),
     }
@@ -269,16 +270,16 @@ fn untagged_entry<'k>(
 /// Proved:
 ///
 /// ```text
-/// IfOk result (Finds (TellsBody kinds.entry.now kind.entry escapes) body.now)
+/// IfOk result (Finds (TellsBody kinds.now kind escapes) body.now)
 /// ```
 #[inline]
-fn body_entry<'k>(
+fn body_entry(
     alloc: Global,
-    kinds: &[LineKind<'k>],
-    kind: LineKind<'k>,
+    kinds: &[Sum],
+    kind: Sum,
     escapes: bool,
     body: &[u8],
-) -> Result<Option<HashLine<'k>>, AllocError> {
+) -> Result<Option<HashLine>, AllocError> {
     for tagged in kinds {
         if let Some(entry) = tagged_entry(alloc, *tagged, escapes, body)? {
             return Ok(Some(entry));
@@ -292,15 +293,15 @@ fn body_entry<'k>(
 /// Proved:
 ///
 /// ```text
-/// IfOk result (Finds (TellsEscaped kinds.entry.now kind.entry) line.now)
+/// IfOk result (Finds (TellsEscaped kinds.now kind) line.now)
 /// ```
 #[inline]
-fn escaped_entry<'k>(
+fn escaped_entry(
     alloc: Global,
-    kinds: &[LineKind<'k>],
-    kind: LineKind<'k>,
+    kinds: &[Sum],
+    kind: Sum,
     line: &[u8],
-) -> Result<Option<HashLine<'k>>, AllocError> {
+) -> Result<Option<HashLine>, AllocError> {
     match behind(line, b"\\") {
         Some(body) => body_entry(alloc, kinds, kind, true, body),
         None => Ok(None),
@@ -315,15 +316,15 @@ fn escaped_entry<'k>(
 /// Proved:
 ///
 /// ```text
-/// IfOk result (Finds (Tells kinds.entry.now kind.entry) line.now)
+/// IfOk result (Finds (Tells kinds.now kind) line.now)
 /// ```
 #[inline]
-pub fn parse_line<'k>(
+pub fn parse_line(
     alloc: Global,
-    kinds: &[LineKind<'k>],
-    kind: LineKind<'k>,
+    kinds: &[Sum],
+    kind: Sum,
     line: &[u8],
-) -> Result<Option<HashLine<'k>>, AllocError> {
+) -> Result<Option<HashLine>, AllocError> {
     match escaped_entry(alloc, kinds, kind, line)? {
         Some(entry) => Ok(Some(entry)),
         None => body_entry(alloc, kinds, kind, false, line),

@@ -17,6 +17,15 @@ use std::marker::PhantomData;
 /// How many bytes are read at once, and fed at once to a hasher to which cuts show.
 pub const PIECE: usize = 4096;
 
+/// Why there is no hash of that name of what is read.
+#[derive(Debug)]
+pub enum NoHash {
+    /// No hash has the name. Nothing was read.
+    UnknownName,
+    /// What is read has no hash.
+    Unhashed(Unhashed),
+}
+
 /// To hash what a reader gives, if that is less than a limit in bytes.
 struct HashRead<R> {
     source: PhantomData<R>,
@@ -50,9 +59,12 @@ impl<R: Read> HashTask for HashRead<R> {
 /// HashesNamed (named name.now) (read limit R.remaining r.old r.new) result
 /// ```
 #[inline]
-pub fn hash_named<R: Read>(name: &str, limit: u64, r: &mut R) -> Result<u64, Unhashed> {
+pub fn hash_named<R: Read>(name: &str, limit: u64, r: &mut R) -> Result<u64, NoHash> {
     match ported_named(name.as_bytes()) {
-        Some(ported) => by_ported::<HashRead<R>>(ported, limit, r),
-        None => Err(Unhashed::UnknownName),
+        Some(ported) => match by_ported::<HashRead<R>>(ported, limit, r) {
+            Ok(hash) => Ok(hash),
+            Err(unhashed) => Err(NoHash::Unhashed(unhashed)),
+        },
+        None => Err(NoHash::UnknownName),
     }
 }

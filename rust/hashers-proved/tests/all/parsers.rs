@@ -2,20 +2,17 @@
 //! back from what is written of it.
 use hashers_proved::bloom::Bloom;
 use hashers_proved::hash_lines::forms::parse_form;
-use hashers_proved::hash_lines::line::{push_line, Form, LineKind, Width};
+use hashers_proved::hash_kinds::table::Kind;
+use hashers_proved::hash_lines::line::{push_line, Form};
 use hashers_proved::hash_lines::parse::{parse_line, HashLine};
+use hashers_proved::hash_lines::sums::{Sum, Wide};
 use hashers_proved::shim::memory::{Global, Vec as Bytes};
 
-const KINDS: [LineKind; 4] = [kind("CRC32", Width::Eight, 0), kind("XXH64", Width::Sixteen, 1), kind("XXH3", Width::Sixteen, 2),
-                              kind("spooky128", Width::ThirtyTwo, 3)];
+const KINDS: [Sum; 4] = [Sum::Table(Kind::Crc32), Sum::Table(Kind::Xxh64), Sum::Table(Kind::Xxh3), Sum::Wide(Wide::Spooky)];
 /// Where inputs begin: lines of ours and of other programs, whole and broken.
-const SEEDS: [&str; 12] = ["CRC32 (a) = 0f1e2d3c", "\\XXH64 (a\\nb) = 0f1e2d3c4b5a6978", "0f1e2d3c4b5a69780f1e2d3c4b5a6978  name", "0f1e2d3c *name",
-                           "\\0F1E2D3C  a\\\\b", " xxh64(a)= 0f1e2d3c4b5a6978", "name with (a) = in it 0F1E2D3C", "; comment", "", "0f1e2d3c  ",
-                           "XXH3 () = 0f1e2d3c4b5a6978", "XXH3 (a) = ) = 0f1e2d3c4b5a6978\r"];
-
-const fn kind(name: &str, width: Width, which: u32) -> LineKind<'_> {
-    LineKind { name, width, which, keys: (0, 0) }
-}
+const SEEDS: [&str; 12] = ["crc32 (a) = 0f1e2d3c", "\\xxh64 (a\\nb) = 0f1e2d3c4b5a6978", "0f1e2d3c4b5a69780f1e2d3c4b5a6978  name", "0f1e2d3c *name",
+                           "\\0F1E2D3C  a\\\\b", " XXH64(a)= 0f1e2d3c4b5a6978", "name with (a) = in it 0F1E2D3C", "; comment", "", "0f1e2d3c  ",
+                           "xxh3 () = 0f1e2d3c4b5a6978", "xxh3 (a) = ) = 0f1e2d3c4b5a6978\r"];
 
 /// Random numbers, the same in each run.
 struct Random(u64);
@@ -47,14 +44,14 @@ impl Random {
 }
 
 /// What is written of an entry is read as that entry, in both forms, unless nothing names its hash.
-fn is_read_back(entry: &HashLine, default: LineKind) {
+fn is_read_back(entry: &HashLine, default: Sum) {
     for form in [Form::Tagged, Form::Untagged] {
         let mut line = Bytes::new(Global);
         push_line(&mut line, form, true, entry.kind, entry.name.as_slice(), entry.number).unwrap();
         let again = parse_line(Global, &KINDS, default, line.as_slice()).unwrap();
-        let is_known = matches!(form, Form::Tagged) || entry.kind.which == default.which;
-        assert!(!is_known || again.is_some_and(|it| (it.number, it.kind.which, it.name.as_slice())
-            == (entry.number, entry.kind.which, entry.name.as_slice())), "{}", line.as_slice().escape_ascii());
+        let is_known = matches!(form, Form::Tagged) || entry.kind.name() == default.name();
+        assert!(!is_known || again.is_some_and(|it| (it.number, it.kind.name(), it.name.as_slice())
+            == (entry.number, entry.kind.name(), entry.name.as_slice())), "{}", line.as_slice().escape_ascii());
     }
 }
 

@@ -1,7 +1,7 @@
 //! A line for each chunk.
 
 // What follows is the proved text of crates/cuts_core/src/listing.rt without its contracts.
-use crate::{cli, hashsum_core};
+use crate::cli;
 use hashers_proved::{hash_cuts, hash_lines, streams};
 use hashers_proved::shim::{Vec, std};
 
@@ -9,8 +9,8 @@ use crate::cuts_core::cut::cut_file;
 use crate::cuts_core::failure::{Failure, TooMany};
 use cli::folder::Folder;
 use hash_cuts::{Cuts, Sink};
-use hash_lines::line::{Form, LineKind, push_line};
-use hashsum_core::sums::{default_kind, number_of_text};
+use hash_lines::line::{Form, push_line};
+use hash_lines::sums::{NO_KEYS, SUMS, Sum, number_of_text};
 use std::alloc::{AllocError, Global};
 use std::io::{BufWriter, Read, Write};
 use streams::tries::write_out;
@@ -18,7 +18,7 @@ use streams::tries::write_out;
 /// Writes a line for each chunk of a file.
 pub struct Lines<'a, W: Write> {
     alloc: Global,
-    kind: LineKind<'static>,
+    kind: Sum,
     name: &'a [u8],
     place: u64, // where the next chunk begins
     /// Where the lines are written.
@@ -37,7 +37,7 @@ impl<W: Write> Lines<'_, W> {
     pub fn new(alloc: Global, w: BufWriter<W>) -> Self {
         Lines {
             alloc,
-            kind: default_kind(),
+            kind: SUMS[0],
             name: b"",
             place: 0,
             w,
@@ -50,12 +50,12 @@ impl<W: Write> Lines<'_, W> {
 /// Proved:
 ///
 /// ```text
-/// IfOk result (λ line. line.items ≡ chunk_line kind.entry name.now place chunk.now)
+/// IfOk result (λ line. line.items ≡ chunk_line kind name.now place chunk.now)
 /// ```
 #[inline]
 fn chunk_line(
     alloc: Global,
-    kind: LineKind<'static>,
+    kind: Sum,
     name: &[u8],
     place: u64,
     chunk: &[u8],
@@ -70,7 +70,7 @@ fn chunk_line(
         true,
         kind,
         name,
-        number_of_text(kind, chunk),
+        number_of_text(kind, NO_KEYS, chunk),
     )?;
     line.push(b'\n')?;
     Ok(line)
@@ -129,7 +129,7 @@ fn list_file<'a, R: Read, F: Folder<R>, W: Write>(
 /// Proved:
 ///
 /// ```text
-/// listed: EndsListing kind.entry cuts.now (F.opens folder.now) (map (λ name. name.now) names.now)
+/// listed: EndsListing kind cuts.now (F.opens folder.now) (map (λ name. name.now) names.now)
 ///     (writer_contents W.contents lines.old.w) (writer_contents W.contents lines.new.w) result
 /// flushed: OnOk result (writer_buffer lines.old.w ≡ [] → writer_buffer lines.new.w ≡ [])
 /// ```
@@ -138,7 +138,7 @@ pub fn list_files<'a, R: Read, F: Folder<R>, W: Write>(
     alloc: Global,
     cuts: &Cuts,
     folder: &F,
-    kind: LineKind<'static>,
+    kind: Sum,
     names: &[&'a [u8]],
     lines: &mut Lines<'a, W>,
 ) -> Result<bool, Failure> {

@@ -1,7 +1,7 @@
 //! What the program `cuts` is asked for, and how it ends.
 
 // What follows is the proved text of crates/cuts_core/src/outcome.rt without its contracts.
-use crate::{cli, hashsum_core};
+use crate::cli;
 use hashers_proved::{hash_cuts, hash_lines, streams};
 use hashers_proved::shim::{Vec, std};
 
@@ -12,12 +12,11 @@ use crate::cuts_core::tally::tell_tally;
 use cli::call::{Call, Opt, flag, taking};
 use cli::folder::{Folder, files};
 use cli::frame::{About, Request, request_of, text_of};
+use cli::keys::keys_of;
 use cli::outcome;
 use cli::outcome::{Words, of_run, of_telling};
 use hash_cuts::Cuts;
-use hash_lines::line::LineKind;
-use hashsum_core::keys::{KeyRule, keys_for};
-use hashsum_core::sums::{kind_of, kinds};
+use hash_lines::sums::{Sum, kind_of, kinds};
 use std::alloc::{AllocError, Global};
 use std::io::{Read, Write};
 use streams::tries::write_out;
@@ -28,7 +27,7 @@ pub struct Task {
     /// The sizes of chunks.
     pub sizes: Sizes,
     /// The hash of a chunk.
-    pub kind: LineKind<'static>,
+    pub kind: Sum,
     /// Whether the numbers of all chunks are written, and not a line for each.
     pub stats: bool,
 }
@@ -148,18 +147,18 @@ pub fn call_of<'a>(alloc: Global, words: &'a [Vec<u8>]) -> Result<Call<'a>, Allo
 /// Proved:
 ///
 /// ```text
-/// task: result ≡ task_of kinds.now (sayings call.now.said.items)
+/// task: result ≡ task_of (sayings call.now.said.items)
 /// sizes: IfOk result (λ task. fallen task.sizes ≡ None)
 /// ```
 #[inline]
-fn task_of(kinds: &[LineKind<'static>], call: &Call<'_>) -> Result<Task, Wrong> {
+fn task_of(call: &Call<'_>) -> Result<Task, Wrong> {
     let Some(sizes) = sizes_of(call) else {
         return Err(Wrong::Own(Misuse::NoSize(no_size(call))));
     };
     if let Some(size) = fallen(sizes) {
         return Err(Wrong::Own(Misuse::Fallen(size)));
     }
-    match kind_of(kinds, call.value(b"algorithm")) {
+    match kind_of(kinds(false), call.value(b"algorithm")) {
         Some(kind) => Ok(Task {
             sizes,
             kind,
@@ -241,13 +240,15 @@ fn ended<'a, R: Read, F: Folder<R>, W: Write>(
     files: &[&'a [u8]],
     lines: &mut Lines<'a, W>,
 ) -> Outcome {
-    match keys_for(folder, key_file, KeyRule::Any) {
-        Some(keys) => {
-            let cuts = cuts_of(task.sizes, keys);
-            of_run(run(alloc, folder, task, &cuts, files, lines))
-        }
-        None => Outcome::Reported,
-    }
+    let keys = match key_file {
+        None => None,
+        Some(name) => match keys_of(folder, name) {
+            None => return Outcome::Reported,
+            keys => keys,
+        },
+    };
+    let cuts = cuts_of(task.sizes, keys);
+    of_run(run(alloc, folder, task, &cuts, files, lines))
 }
 
 /// Does what the call asks for. If the call is wrong, or there is no memory for its files, nothing is written. Where all was done or told,
@@ -274,11 +275,11 @@ pub fn outcome_of<'a, R: Read, F: Folder<R>, W: Write>(
     match request_of(call) {
         Request::Misgiven(misgiven) => Outcome::Usage(Wrong::Option(misgiven)),
         Request::Text(text) => of_telling(write_out(&mut lines.w, text_of(&about, text))),
-        Request::Work => match (kinds(alloc, None), files(alloc, call)) {
-            (Ok(kinds), Ok(files)) => match task_of(&kinds, call) {
-                Ok(task) => ended(alloc, folder, task, call.value(b"key-file"), &files, lines),
-                Err(wrong) => Outcome::Usage(wrong),
-            },
+        Request::Work => match (task_of(call), files(alloc, call)) {
+            (Err(wrong), _) => Outcome::Usage(wrong),
+            (Ok(task), Ok(files)) => {
+                ended(alloc, folder, task, call.value(b"key-file"), &files, lines)
+            }
             _ => Outcome::Failed(Failure::NoMemory),
         },
     }

@@ -1,7 +1,7 @@
 //! How much a store would save that keeps each chunk once.
 
 // What follows is the proved text of crates/cuts_core/src/tally.rt without its contracts.
-use crate::{cli, hashsum_core};
+use crate::cli;
 use hashers_proved::{hash_cuts, hash_lines, streams};
 use hashers_proved::shim::{Vec, std};
 
@@ -9,8 +9,7 @@ use crate::cuts_core::cut::cut_file;
 use crate::cuts_core::failure::{Failure, TooMany};
 use cli::folder::Folder;
 use hash_cuts::{Cuts, Sink};
-use hash_lines::line::LineKind;
-use hashsum_core::sums::number_of_text;
+use hash_lines::sums::{NO_KEYS, Sum, number_of_text};
 use std::alloc::{AllocError, Global};
 use std::collections::BTreeSet;
 use std::io::{BufWriter, Read, Write};
@@ -18,7 +17,7 @@ use streams::tries::write_out;
 
 /// The numbers of the chunks so far.
 pub struct Tally {
-    kind: LineKind<'static>,
+    kind: Sum,
     chunks: u64,
     bytes: u64,
     first: u64, // the bytes of the chunks whose hash no chunk before them has
@@ -31,11 +30,11 @@ impl Tally {
     /// Proved:
     ///
     /// ```text
-    /// counted: IsCounted (sum_by kind.entry) [] result
-    /// kind: result.kind ≡ kind.entry
+    /// counted: IsCounted (sum_by kind) [] result
+    /// kind: result.kind ≡ kind
     /// ```
     #[inline]
-    fn new(alloc: Global, kind: LineKind<'static>) -> Tally {
+    fn new(alloc: Global, kind: Sum) -> Tally {
         Tally {
             kind,
             chunks: 0,
@@ -104,7 +103,7 @@ impl Sink for Tally {
     /// ```
     #[inline]
     fn take(&mut self, chunk: &[u8]) -> Result<(), Failure> {
-        let is_new = see(&mut self.hashes, number_of_text(self.kind, chunk))?;
+        let is_new = see(&mut self.hashes, number_of_text(self.kind, NO_KEYS, chunk))?;
         self.chunks = sum(self.chunks, 1)?;
         self.bytes = sum(self.bytes, chunk.len())?;
         self.first = sum(self.first, bytes_if(is_new, chunk))?;
@@ -206,7 +205,7 @@ fn tally_lines(alloc: Global, tally: &Tally) -> Result<Vec<u8>, AllocError> {
 /// Proved:
 ///
 /// ```text
-/// told: EndsTally (sum_by kind.entry) cuts.now (F.opens folder.now) (map (λ name. name.now) names.now)
+/// told: EndsTally (sum_by kind) cuts.now (F.opens folder.now) (map (λ name. name.now) names.now)
 ///     (writer_contents W.contents w.old) (writer_contents W.contents w.new) result
 /// flushed: OnOk result (writer_buffer w.new ≡ [])
 /// ```
@@ -215,7 +214,7 @@ pub fn tell_tally<R: Read, F: Folder<R>, W: Write>(
     alloc: Global,
     cuts: &Cuts,
     folder: &F,
-    kind: LineKind<'static>,
+    kind: Sum,
     names: &[&[u8]],
     w: &mut BufWriter<W>,
 ) -> Result<bool, Failure> {

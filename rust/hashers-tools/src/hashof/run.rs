@@ -8,7 +8,7 @@ use hashers_proved::shim::std;
 
 use crate::hashof::line::write_line;
 use hash_laws::reading::reader::Fault;
-use hash_names::reading::{Unhashed, hash_named};
+use hash_names::reading::{NoHash, Unhashed, hash_named};
 use std::io::{Error, Read, Write};
 
 /// Why no hash was told. The cases are tried in this order.
@@ -29,14 +29,14 @@ pub enum RunFault {
 /// Proved:
 ///
 /// ```text
-/// result ≡ fault_of unhashed
+/// result ≡ fault_of why
 /// ```
 #[inline]
-fn fault_of(unhashed: Unhashed) -> RunFault {
-    match unhashed {
-        Unhashed::UnknownName => RunFault::UnknownName,
-        Unhashed::ReadFault(fault) => RunFault::ReadFault(fault),
-        Unhashed::TooLong => RunFault::TooLong,
+fn fault_of(why: NoHash) -> RunFault {
+    match why {
+        NoHash::UnknownName => RunFault::UnknownName,
+        NoHash::Unhashed(Unhashed::ReadFault(fault)) => RunFault::ReadFault(fault),
+        NoHash::Unhashed(Unhashed::TooLong) => RunFault::TooLong,
     }
 }
 
@@ -64,7 +64,7 @@ pub fn run_limited<R: Read, W: Write>(
 ) -> Result<(), RunFault> {
     match hash_named(name, limit, r) {
         Ok(hash) => write_line(w, hash),
-        Err(unhashed) => Err(fault_of(unhashed)),
+        Err(why) => Err(fault_of(why)),
     }
 }
 

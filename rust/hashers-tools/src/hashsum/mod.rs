@@ -2,7 +2,7 @@
 
 // What follows is the proved text of crates/hashsum/src/main.rt without its contracts.
 use crate::{cli, hashsum_core};
-use hashers_proved::streams;
+use hashers_proved::{hash_lines, streams};
 use hashers_proved::shim::{HostRuntime, String, Vec, format, std};
 
 use cli::call::Call;
@@ -10,10 +10,10 @@ use cli::frame::{About, wrong_word};
 use cli::help::help_for;
 use cli::program::{BUFFER, Program, run};
 use cli::progress::Watched;
+use hash_lines::sums::{SUMS, Sum};
 use hashsum_core::disk::Checked;
 use hashsum_core::laws::seen;
 use hashsum_core::outcome::{Misuse, Outcome, Wrong, call_of, options, outcome_of};
-use hashsum_core::sums::{Sum, kinds, sum_at};
 use std::alloc::{AllocError, Global};
 use std::io;
 use std::io::BufWriter;
@@ -44,8 +44,7 @@ License: MIT
 fn list(alloc: Global) -> Result<String, AllocError> {
     let mut list = String::new(alloc);
     list.push_str("NAME        BITS CUTS  A CHECK SEES, IN A FILE OF THE SAME LENGTH\n")?;
-    for told in &kinds(alloc, Some((0, 0)))? {
-        let sum = sum_at(told.which);
+    for sum in &SUMS {
         let (bits, cuts) = match sum {
             Sum::Table(kind) => (kind.row().bits, kind.row().cuts),
             Sum::Wide(_) => (128, false),
@@ -55,10 +54,10 @@ fn list(alloc: Global) -> Result<String, AllocError> {
         let cuts = if cuts { "yes" } else { "no" };
         let line = format!(in alloc;
             "{:<12} {:>3} {:<4}  {}\n",
-            told.name,
+            sum.name(),
             bits,
             cuts,
-            seen::<Watched<'_>, Checked<'_>>(sum)
+            seen::<Watched<'_>, Checked<'_>>(*sum)
         )?;
         list.push_str(line.as_str())?;
     }

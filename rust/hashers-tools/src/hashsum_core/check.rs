@@ -11,12 +11,12 @@ use crate::hashsum_core::failure::Failure;
 use crate::hashsum_core::hints::{NO_LINES, Untagged, hint_of, with_line};
 use crate::hashsum_core::reports::Reports;
 use crate::hashsum_core::sum::{Unsummed, error_of, number_of};
-use crate::hashsum_core::sums::{is_keyed, is_named};
 use cli::folder::Folder;
 use hash_lines::escape::needs_escape;
 use hash_lines::forms::parse_form;
-use hash_lines::line::{LineKind, push_name};
+use hash_lines::line::push_name;
 use hash_lines::parse::{HashLine, parse_line};
+use hash_lines::sums::{Sum, is_named};
 use std::alloc::{AllocError, Global};
 use std::io;
 use std::io::{BufRead, BufReader, BufWriter, Error, ErrorKind, Read, Write};
@@ -29,13 +29,13 @@ const BUFFER: usize = 65536;
 
 /// How lines are checked.
 #[derive(Clone, Copy)]
-pub struct Checking<'k> {
+pub struct Checking {
     /// By which hash lines that are not tagged are checked.
-    pub kind: LineKind<'k>,
+    pub kind: Sum,
+    /// The keys for lines of hashes that take them, if there are any.
+    pub keys: Option<(u64, u64)>,
     /// Whether lines by other hashes are improper.
     pub only: bool,
-    /// Whether there are keys for lines of hashes that take them.
-    pub keyed: bool,
     /// Whether files that have the hash are left out.
     pub quiet: bool,
     /// Whether nothing is written.
@@ -64,13 +64,13 @@ pub enum Verdict {
 }
 
 /// What came of a line.
-pub enum LineCheck<'k> {
+pub enum LineCheck {
     /// It is empty, or a comment.
     Skipped,
     /// It tells no hash, or that of its own list.
     Improper,
     /// The file that it tells of was looked at.
-    Checked(HashLine<'k>, Verdict),
+    Checked(HashLine, Verdict),
 }
 
 /// How often each came of the lines of a list.
@@ -112,10 +112,10 @@ pub fn passes(strict: bool, counts: &Counts) -> bool {
 /// Proved:
 ///
 /// ```text
-/// result ≡ counted counts came.entry.now
+/// result ≡ counted counts came.now
 /// ```
 #[inline]
-fn count(counts: Counts, came: &LineCheck<'_>) -> Counts {
+fn count(counts: Counts, came: &LineCheck) -> Counts {
     match came {
         LineCheck::Skipped => counts,
         LineCheck::Improper => Counts {
@@ -193,17 +193,17 @@ fn verdict_of(ignore_missing: bool, told: u128, came: &Result<u128, Unsummed>) -
 /// Proved:
 ///
 /// ```text
-/// IsVerdict (F.opens folder.now entry.entry.now.name.items) (sum_by entry.entry.now.kind)
-///     ignore_missing entry.entry.now.number result
+/// IsVerdict (F.opens folder.now entry.now.name.items) (sum_under checking.keys entry.now.kind)
+///     checking.ignore_missing entry.now.number result
 /// ```
 #[inline]
 fn check_file<R: Read, F: Folder<R>>(
     folder: &F,
-    entry: &HashLine<'_>,
-    ignore_missing: bool,
+    checking: Checking,
+    entry: &HashLine,
 ) -> Verdict {
-    let came = number_of(folder, entry.kind, &entry.name);
-    let verdict = verdict_of(ignore_missing, entry.number, &came);
+    let came = number_of(folder, entry.kind, checking.keys, &entry.name);
+    let verdict = verdict_of(checking.ignore_missing, entry.number, &came);
     if let Verdict::Unread = verdict {
         if let Err(unsummed) = came {
             folder.failed(&entry.name, &error_of(unsummed));
@@ -217,11 +217,11 @@ fn check_file<R: Read, F: Folder<R>>(
 /// Proved:
 ///
 /// ```text
-/// result ≡ lacks_keys keyed kind.entry
+/// result ≡ lacks_keys keys kind
 /// ```
 #[inline]
-fn lacks_keys(keyed: bool, kind: LineKind<'_>) -> bool {
-    !keyed && is_keyed(kind)
+fn lacks_keys(keys: Option<(u64, u64)>, kind: Sum) -> bool {
+    keys.is_none() && kind.takes_keys()
 }
 
 /// The verdict on the file of an entry.
@@ -229,19 +229,19 @@ fn lacks_keys(keyed: bool, kind: LineKind<'_>) -> bool {
 /// Proved:
 ///
 /// ```text
-/// IsVerdictBy checking.entry (F.opens folder.now) entry.entry.now.kind entry.entry.now.name.items
-///     entry.entry.now.number result
+/// IsVerdictBy checking (F.opens folder.now) entry.now.kind entry.now.name.items
+///     entry.now.number result
 /// ```
 #[inline]
 fn verdict_by<R: Read, F: Folder<R>>(
     folder: &F,
-    checking: Checking<'_>,
-    entry: &HashLine<'_>,
+    checking: Checking,
+    entry: &HashLine,
 ) -> Verdict {
-    if lacks_keys(checking.keyed, entry.kind) {
+    if lacks_keys(checking.keys, entry.kind) {
         return Verdict::Unkeyed;
     }
-    check_file(folder, entry, checking.ignore_missing)
+    check_file(folder, checking, entry)
 }
 
 /// Whether lines of SFV files are taken in the list of that name.
@@ -249,11 +249,11 @@ fn verdict_by<R: Read, F: Folder<R>>(
 /// Proved:
 ///
 /// ```text
-/// result ≡ takes_sfv kind.entry list.now
+/// result ≡ takes_sfv kind list.now
 /// ```
 #[inline]
-fn takes_sfv(kind: LineKind<'_>, list: &[u8]) -> bool {
-    kind.name == "crc32" || is_named(b".sfv", &list[list.len().saturating_sub(4)..])
+fn takes_sfv(kind: Sum, list: &[u8]) -> bool {
+    kind.name() == "crc32" || is_named(b".sfv", &list[list.len().saturating_sub(4)..])
 }
 
 /// Whether a line of that name is of the list that it stands in.
@@ -288,17 +288,17 @@ fn is_skipped(sfv: bool, line: &[u8]) -> bool {
 /// Proved:
 ///
 /// ```text
-/// IfOk result (λ found. MatchOption found (TellsNone sfv kinds.entry.now kind.entry line.now)
-///     (λ entry. TellsAny sfv kinds.entry.now kind.entry entry.kind entry.name.items entry.number line.now))
+/// IfOk result (λ found. MatchOption found (TellsNone sfv kinds.now kind line.now)
+///     (λ entry. TellsAny sfv kinds.now kind entry.kind entry.name.items entry.number line.now))
 /// ```
 #[inline]
-fn entry_of<'k>(
+fn entry_of(
     alloc: Global,
-    kinds: &[LineKind<'k>],
-    kind: LineKind<'k>,
+    kinds: &[Sum],
+    kind: Sum,
     sfv: bool,
     line: &[u8],
-) -> Result<Option<HashLine<'k>>, AllocError> {
+) -> Result<Option<HashLine>, AllocError> {
     if let Some(entry) = parse_line(alloc, kinds, kind, line)? {
         return Ok(Some(entry));
     }
@@ -310,17 +310,17 @@ fn entry_of<'k>(
 /// Proved:
 ///
 /// ```text
-/// IfOk result (IsLineCheck kinds.entry.now checking.entry (F.opens folder.now) list.now line.now)
+/// IfOk result (IsLineCheck kinds.now checking (F.opens folder.now) list.now line.now)
 /// ```
 #[inline]
-fn check_line<'k, R: Read, F: Folder<R>>(
+fn check_line<R: Read, F: Folder<R>>(
     alloc: Global,
     folder: &F,
-    kinds: &[LineKind<'k>],
-    checking: Checking<'k>,
+    kinds: &[Sum],
+    checking: Checking,
     list: &[u8],
     line: &[u8],
-) -> Result<LineCheck<'k>, AllocError> {
+) -> Result<LineCheck, AllocError> {
     let sfv = takes_sfv(checking.kind, list);
     if is_skipped(sfv, line) {
         return Ok(LineCheck::Skipped);
@@ -384,15 +384,10 @@ fn behind_name(alloc: Global, name: &[u8], words: &[u8]) -> Result<Vec<u8>, Allo
 /// Proved:
 ///
 /// ```text
-/// IfOk result (λ text. text.items ≡ said quiet status came.entry.now)
+/// IfOk result (λ text. text.items ≡ said quiet status came.now)
 /// ```
 #[inline]
-fn said(
-    alloc: Global,
-    came: &LineCheck<'_>,
-    quiet: bool,
-    status: bool,
-) -> Result<Vec<u8>, AllocError> {
+fn said(alloc: Global, came: &LineCheck, quiet: bool, status: bool) -> Result<Vec<u8>, AllocError> {
     match came {
         LineCheck::Checked(entry, verdict) => {
             behind_name(alloc, &entry.name, verdict_words(*verdict, quiet, status))
@@ -434,20 +429,20 @@ fn bare(line: &[u8]) -> &[u8] {
 /// Proved:
 ///
 /// ```text
-/// told: EndsLine kinds.entry.now checking.entry (F.opens folder.now) list.now line.now
+/// told: EndsLine kinds.now checking (F.opens folder.now) list.now line.now
 ///     (writer_contents W.contents w.old) (writer_contents W.contents w.new) result
 /// flushed: OnOk result (writer_buffer w.new ≡ [])
 /// ```
 #[inline]
-fn tell_line<'k, R: Read, F: Folder<R>, W: Write>(
+fn tell_line<R: Read, F: Folder<R>, W: Write>(
     alloc: Global,
     folder: &F,
-    kinds: &[LineKind<'k>],
-    checking: Checking<'k>,
+    kinds: &[Sum],
+    checking: Checking,
     list: &[u8],
     line: &[u8],
     w: &mut BufWriter<W>,
-) -> Result<LineCheck<'k>, Failure> {
+) -> Result<LineCheck, Failure> {
     let text = bare(line);
     let came = match check_line(alloc, folder, kinds, checking, list, text) {
         Ok(came) => came,
@@ -479,7 +474,7 @@ const UNCOUNTED: Counts = Counts {
 /// Proved:
 ///
 /// ```text
-/// told: EndsList kinds.now checking.entry (F.opens folder.now) list.now (B.remaining lines.old)
+/// told: EndsList kinds.now checking (F.opens folder.now) list.now (B.remaining lines.old)
 ///     (writer_contents W.contents w.old) (writer_contents W.contents w.new) result
 /// flushed: OnOk result (writer_buffer w.old ≡ [] → writer_buffer w.new ≡ [])
 /// ```
@@ -487,8 +482,8 @@ const UNCOUNTED: Counts = Counts {
 fn check_lines<B: BufRead, R: Read, F: Folder<R> + Reports, W: Write>(
     alloc: Global,
     folder: &F,
-    kinds: &[LineKind<'static>],
-    checking: Checking<'static>,
+    kinds: &[Sum],
+    checking: Checking,
     list: &[u8],
     lines: &mut B,
     w: &mut BufWriter<W>,
@@ -530,7 +525,7 @@ fn hint<F: Reports>(reports: &F, only: bool, list: &[u8], untagged: Untagged) {
 
 /// Tells an improper line, if that is asked for.
 #[inline]
-fn warn<F: Reports>(reports: &F, warn: bool, list: &[u8], number: u64, came: &LineCheck<'_>) {
+fn warn<F: Reports>(reports: &F, warn: bool, list: &[u8], number: u64, came: &LineCheck) {
     if let LineCheck::Improper = came {
         if warn {
             reports.improper(list, number);
@@ -543,7 +538,7 @@ fn warn<F: Reports>(reports: &F, warn: bool, list: &[u8], number: u64, came: &Li
 /// Proved:
 ///
 /// ```text
-/// told: EndsListOf kinds.now checking.entry (F.opens folder.now) list.now
+/// told: EndsListOf kinds.now checking (F.opens folder.now) list.now
 ///     (writer_contents W.contents w.old) (writer_contents W.contents w.new) result
 /// flushed: OnOk result (writer_buffer w.old ≡ [] → writer_buffer w.new ≡ [])
 /// ```
@@ -551,8 +546,8 @@ fn warn<F: Reports>(reports: &F, warn: bool, list: &[u8], number: u64, came: &Li
 fn check_list<R: Read, F: Folder<R> + Reports, W: Write>(
     alloc: Global,
     folder: &F,
-    kinds: &[LineKind<'static>],
-    checking: Checking<'static>,
+    kinds: &[Sum],
+    checking: Checking,
     list: &[u8],
     w: &mut BufWriter<W>,
 ) -> Result<bool, Failure> {
@@ -581,7 +576,7 @@ fn check_list<R: Read, F: Folder<R> + Reports, W: Write>(
 /// Proved:
 ///
 /// ```text
-/// told: EndsLists kinds.now checking.entry (F.opens folder.now) (map (λ list. list.now) lists.now)
+/// told: EndsLists kinds.now checking (F.opens folder.now) (map (λ list. list.now) lists.now)
 ///     (writer_contents W.contents w.old) (writer_contents W.contents w.new) result
 /// flushed: OnOk result (writer_buffer w.old ≡ [] → writer_buffer w.new ≡ [])
 /// ```
@@ -589,8 +584,8 @@ fn check_list<R: Read, F: Folder<R> + Reports, W: Write>(
 pub fn check_lists<R: Read, F: Folder<R> + Reports, W: Write>(
     alloc: Global,
     folder: &F,
-    kinds: &[LineKind<'static>],
-    checking: Checking<'static>,
+    kinds: &[Sum],
+    checking: Checking,
     lists: &[&[u8]],
     w: &mut BufWriter<W>,
 ) -> Result<bool, Failure> {

@@ -56,10 +56,10 @@ fn digits_in_front(line: &[u8]) -> usize {
 /// Proved:
 ///
 /// ```text
-/// result ≡ with_line lines line.now came.entry.now
+/// result ≡ with_line lines line.now came.now
 /// ```
 #[inline]
-pub(crate) fn with_line(lines: Untagged, line: &[u8], came: &LineCheck<'_>) -> Untagged {
+pub(crate) fn with_line(lines: Untagged, line: &[u8], came: &LineCheck) -> Untagged {
     let digits = digits_in_front(line);
     match came {
         LineCheck::Improper if digits == 16 => Untagged {

@@ -7,12 +7,12 @@
 // The laws alone name the hashes.
 #![allow(unused_imports)]
 use crate::cli;
-use hashers_proved::{hash_kinds, hash_more, hash_names, hashers};
+use hashers_proved::{hash_kinds, hash_lines, hash_more, hash_names, hashers};
 use hashers_proved::shim::std;
 
-use crate::hashsum_core::sums::{Sum, Wide};
 use cli::folder::Folder;
 use hash_kinds::table::Kind;
+use hash_lines::sums::{Sum, Wide};
 use hash_more::crc32::{Crc32Hasher, Crc32cHasher};
 use hash_more::djb2_add::Djb2AddHasher;
 use hash_more::elf::ElfHasher;

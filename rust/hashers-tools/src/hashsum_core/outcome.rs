@@ -10,13 +10,13 @@ use crate::hashsum_core::failure::Failure;
 use crate::hashsum_core::keys::{KeyRule, keys_for};
 use crate::hashsum_core::reports::Reports;
 use crate::hashsum_core::sum::{Summing, sum_files};
-use crate::hashsum_core::sums::{is_named, kind_of, kinds};
 use cli::call::{Call, Opt, flag, taking};
 use cli::folder::{Folder, files};
 use cli::frame::{About, Request, request_of, text_of};
 use cli::outcome;
 use cli::outcome::{Words, of_run, of_telling};
-use hash_lines::line::{Form, LineKind};
+use hash_lines::line::Form;
+use hash_lines::sums::{Sum, is_named, kind_of, kinds};
 use std::alloc::{AllocError, Global};
 use std::io::{BufWriter, Read, Write};
 use streams::failure::Nothing;
@@ -28,7 +28,7 @@ pub enum Task {
     /// The line of each file.
     Sum(Summing),
     /// Whether files have the hashes that lines tell.
-    Check(Checking<'static>),
+    Check(Checking),
 }
 
 /// What else is wrong with a call.
@@ -157,14 +157,14 @@ fn asked<'a>(call: &Call<'a>) -> Option<&'a [u8]> {
 /// Proved:
 ///
 /// ```text
-/// result ≡ checking_of (sayings call.now.said.items) kind.entry
+/// result ≡ checking_of (sayings call.now.said.items) keys kind
 /// ```
 #[inline]
-fn checking_of(call: &Call<'_>, kind: LineKind<'static>) -> Checking<'static> {
+fn checking_of(call: &Call<'_>, keys: Option<(u64, u64)>, kind: Sum) -> Checking {
     Checking {
         kind,
+        keys,
         only: asked(call).is_some(),
-        keyed: call.gives(b"key-file"),
         quiet: call.gives(b"quiet"),
         status: call.gives(b"status"),
         strict: call.gives(b"strict"),
@@ -178,12 +178,13 @@ fn checking_of(call: &Call<'_>, kind: LineKind<'static>) -> Checking<'static> {
 /// Proved:
 ///
 /// ```text
-/// result ≡ summing_of (sayings call.now.said.items) kind.entry
+/// result ≡ summing_of (sayings call.now.said.items) keys kind
 /// ```
 #[inline]
-fn summing_of(call: &Call<'_>, kind: LineKind<'static>) -> Summing {
+fn summing_of(call: &Call<'_>, keys: Option<(u64, u64)>, kind: Sum) -> Summing {
     Summing {
         kind,
+        keys,
         form: if call.gives_last(b"untagged", b"tag") {
             Form::Untagged
         } else {
@@ -290,33 +291,33 @@ fn misuse_of(call: &Call<'_>) -> Option<Misuse> {
     None
 }
 
-/// What is to be done by a hash of this kind.
+/// What is to be done by this hash.
 ///
 /// Proved:
 ///
 /// ```text
-/// result ≡ work_of (sayings call.now.said.items) kind.entry
+/// result ≡ work_of (sayings call.now.said.items) keys kind
 /// ```
 #[inline]
-fn work_of(call: &Call<'_>, kind: LineKind<'static>) -> Task {
+fn work_of(call: &Call<'_>, keys: Option<(u64, u64)>, kind: Sum) -> Task {
     if call.gives(b"check") {
-        Task::Check(checking_of(call, kind))
+        Task::Check(checking_of(call, keys, kind))
     } else {
-        Task::Sum(summing_of(call, kind))
+        Task::Sum(summing_of(call, keys, kind))
     }
 }
 
-/// Which work a call asks for.
+/// Which work a call asks for, under the keys in its key file.
 ///
 /// Proved:
 ///
 /// ```text
-/// result ≡ task_of kinds.now (sayings call.now.said.items)
+/// result ≡ task_of (sayings call.now.said.items) keys
 /// ```
 #[inline]
-fn task_of(kinds: &[LineKind<'static>], call: &Call<'_>) -> Result<Task, Wrong> {
-    match kind_of(kinds, asked(call)) {
-        Some(kind) => Ok(work_of(call, kind)),
+fn task_of(call: &Call<'_>, keys: Option<(u64, u64)>) -> Result<Task, Wrong> {
+    match kind_of(kinds(true), asked(call)) {
+        Some(kind) => Ok(work_of(call, keys, kind)),
         None => Err(Wrong::UnknownName),
     }
 }
@@ -326,7 +327,7 @@ fn task_of(kinds: &[LineKind<'static>], call: &Call<'_>) -> Result<Task, Wrong> 
 /// Proved:
 ///
 /// ```text
-/// told: EndsLists (taken kinds.now checking.entry) checking.entry (F.opens folder.now)
+/// told: EndsLists (taken checking) checking (F.opens folder.now)
 ///     (map (λ list. list.now) lists.now)
 ///     (writer_contents W.contents w.old) (writer_contents W.contents w.new) result
 /// flushed: OnOk result (writer_buffer w.old ≡ [] → writer_buffer w.new ≡ [])
@@ -335,15 +336,14 @@ fn task_of(kinds: &[LineKind<'static>], call: &Call<'_>) -> Result<Task, Wrong> 
 fn check_taken<R: Read, F: Folder<R> + Reports, W: Write>(
     alloc: Global,
     folder: &F,
-    kinds: &[LineKind<'static>],
-    checking: Checking<'static>,
+    checking: Checking,
     lists: &[&[u8]],
     w: &mut BufWriter<W>,
 ) -> Result<bool, Failure> {
     if checking.only {
         return check_lists(alloc, folder, &[checking.kind], checking, lists, w);
     }
-    check_lists(alloc, folder, kinds, checking, lists, w)
+    check_lists(alloc, folder, kinds(true), checking, lists, w)
 }
 
 /// Does a task over these files.
@@ -351,7 +351,7 @@ fn check_taken<R: Read, F: Folder<R> + Reports, W: Write>(
 /// Proved:
 ///
 /// ```text
-/// ended: EndsTask kinds.now (F.opens folder.now) (map (λ file. file.now) files.now)
+/// ended: EndsTask (F.opens folder.now) (map (λ file. file.now) files.now)
 ///     (writer_contents W.contents w.old) (writer_contents W.contents w.new) task result
 /// flushed: writer_buffer w.old ≡ [] → IsFlushed (writer_buffer w.new) result
 /// ```
@@ -359,14 +359,13 @@ fn check_taken<R: Read, F: Folder<R> + Reports, W: Write>(
 fn ended<R: Read, F: Folder<R> + Reports, W: Write>(
     alloc: Global,
     folder: &F,
-    kinds: &[LineKind<'static>],
     files: &[&[u8]],
     task: Result<Task, Wrong>,
     w: &mut BufWriter<W>,
 ) -> Outcome {
     match task {
         Ok(Task::Sum(summing)) => of_run(sum_files(alloc, folder, summing, files, w)),
-        Ok(Task::Check(checking)) => of_run(check_taken(alloc, folder, kinds, checking, files, w)),
+        Ok(Task::Check(checking)) => of_run(check_taken(alloc, folder, checking, files, w)),
         Err(wrong) => Outcome::Usage(wrong),
     }
 }
@@ -388,33 +387,8 @@ fn keys_of_call<R: Read, F: Folder<R>>(
     keys_for(folder, call.value(b"key-file"), key_rule(call))
 }
 
-/// Does the work of a call over its files, by hashes of these kinds.
-///
-/// Proved:
-///
-/// ```text
-/// ended: EndsTask kinds.now (F.opens folder.now) (files_or (operands (sayings call.now.said.items)))
-///     (writer_contents W.contents w.old) (writer_contents W.contents w.new)
-///     (task_of kinds.now (sayings call.now.said.items)) result
-///     ⊎ ((result ≡ Failed NoMemory) × Keeps (writer_contents W.contents w.old) (writer_contents W.contents w.new))
-/// flushed: writer_buffer w.old ≡ [] → IsFlushed (writer_buffer w.new) result
-/// ```
-#[inline]
-fn worked_by<R: Read, F: Folder<R> + Reports, W: Write>(
-    alloc: Global,
-    folder: &F,
-    kinds: &[LineKind<'static>],
-    call: &Call<'_>,
-    w: &mut BufWriter<W>,
-) -> Outcome {
-    match files(alloc, call) {
-        Ok(files) => ended(alloc, folder, kinds, &files, task_of(kinds, call), w),
-        Err(_) => Outcome::Failed(Failure::NoMemory),
-    }
-}
-
-/// Does the work of a call, by the hashes that can be told, and by those that take keys under the keys of its key file. If that has no
-/// such keys, or there is no memory for the files, nothing is written.
+/// Does the work of a call, under the keys of its key file. If that has no such keys, or there is no memory for the files, nothing is
+/// written.
 ///
 /// Proved:
 ///
@@ -430,12 +404,12 @@ fn worked<R: Read, F: Folder<R> + Reports, W: Write>(
     call: &Call<'_>,
     w: &mut BufWriter<W>,
 ) -> Outcome {
-    match keys_of_call(folder, call) {
-        None => Outcome::Reported,
-        Some(keys) => match kinds(alloc, Some(keys.unwrap_or((0, 0)))) {
-            Ok(kinds) => worked_by(alloc, folder, &kinds, call, w),
-            Err(_) => Outcome::Failed(Failure::NoMemory),
-        },
+    let Some(keys) = keys_of_call(folder, call) else {
+        return Outcome::Reported;
+    };
+    match files(alloc, call) {
+        Ok(files) => ended(alloc, folder, &files, task_of(call, keys), w),
+        Err(_) => Outcome::Failed(Failure::NoMemory),
     }
 }
 

@@ -6,10 +6,10 @@ use hashers_proved::{hash_kinds, hash_lines, streams};
 use hashers_proved::shim::{Vec, std};
 
 use crate::hashsum_core::failure::Failure;
-use crate::hashsum_core::sums::number_by;
 use cli::folder::Folder;
 use hash_kinds::reading::Unhashed;
-use hash_lines::line::{Form, LineKind, push_line};
+use hash_lines::line::{Form, push_line};
+use hash_lines::sums::{NO_KEYS, Sum, number_by};
 use std::alloc::{AllocError, Global};
 use std::io::{BufWriter, Error, ErrorKind, Read, Write};
 use streams::tries::write_out;
@@ -18,7 +18,9 @@ use streams::tries::write_out;
 #[derive(Clone, Copy)]
 pub struct Summing {
     /// By which hash.
-    pub kind: LineKind<'static>,
+    pub kind: Sum,
+    /// The keys for a hash that takes them, if there are any.
+    pub keys: Option<(u64, u64)>,
     /// In lines of which form.
     pub form: Form,
     /// Whether lines end with a zero byte and have no escapes.
@@ -43,28 +45,25 @@ pub(crate) fn error_of(unsummed: Unsummed) -> Error {
             ErrorKind::FileTooLarge,
             "file too large",
         ),
-        Unsummed::Unhashed(Unhashed::UnknownName) => Error::new(
-            ErrorKind::InvalidInput,
-            "unknown hash",
-        ),
     }
 }
 
-/// The number of the file of that name, by a hash.
+/// The number of the file of that name, by a hash, under these keys if it takes keys.
 ///
 /// Proved:
 ///
 /// ```text
-/// SumsFile (F.opens folder.now name.now) (sum_by kind.entry) result
+/// SumsFile (F.opens folder.now name.now) (sum_under keys kind) result
 /// ```
 #[inline]
 pub fn number_of<R: Read, F: Folder<R>>(
     folder: &F,
-    kind: LineKind<'_>,
+    kind: Sum,
+    keys: Option<(u64, u64)>,
     name: &[u8],
 ) -> Result<u128, Unsummed> {
     match folder.open(name) {
-        Ok(mut file) => match number_by(kind, u64::MAX, &mut file) {
+        Ok(mut file) => match number_by(kind, keys.unwrap_or(NO_KEYS), u64::MAX, &mut file) {
             Ok(number) => Ok(number),
             Err(unhashed) => Err(Unsummed::Unhashed(unhashed)),
         },
@@ -141,7 +140,7 @@ fn sum_file<R: Read, F: Folder<R>, W: Write>(
     name: &[u8],
     w: &mut BufWriter<W>,
 ) -> Result<bool, Failure> {
-    match number_of(folder, summing.kind, name) {
+    match number_of(folder, summing.kind, summing.keys, name) {
         Ok(number) => match tell_sum(alloc, summing, name, number, w) {
             Ok(()) => Ok(true),
             Err(fault) => Err(fault),

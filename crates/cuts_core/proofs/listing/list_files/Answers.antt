@@ -1,4 +1,4 @@
-use Rattle.cuts_core.proofs.Common.{◌+◌, ◌∷◌, ◌++◌, [], ℕ, List, Err, Ok, map, take, drop, get_or, ap, refl, subst, sym, ◌∙◌, Cut, IsFileCut, is_whole, name_of, EndsLines, lines_of, LineKind, writer_contents, Bor, AreTold, names_more, names_rest, told_next}
+use Rattle.cuts_core.proofs.Common.{◌+◌, ◌∷◌, ◌++◌, [], ℕ, List, Err, Ok, map, take, drop, get_or, ap, refl, subst, sym, ◌∙◌, Cut, IsFileCut, is_whole, name_of, EndsLines, lines_of, Sum, writer_contents, Bor, AreTold, names_more, names_rest, told_next}
 use Rattle.cuts_core.proofs.listing.list_files.Goals as goal
 
 abbrev nothing : Bor (List ℕ)
@@ -23,7 +23,7 @@ returns-in-Err-clause-listed g c =
           ∙ names_rest (λ (n : Bor (List ℕ)). n.now) names i nothing c.loop-name-test.true;
       so_far = subst (λ (ns : List (List ℕ)). AreTold name_of (IsFileCut c.args.cuts.now opens) (lines_of c.args.kind) is_whole ns told
           (contents c.args.lines.now.w) (contents c.loop-name.lines.w) c.loop-name.all) (sym so_far.names_are) so_far;
-      last = subst (λ (kind : LineKind). EndsLines kind c.args.cuts.now opens name (contents c.loop-name.lines.w)
+      last = subst (λ (kind : Sum). EndsLines kind c.args.cuts.now opens name (contents c.loop-name.lines.w)
           (contents c.list_file.new.lines.w) (Err c.in-Err.fault)) c.loop-name.invariant.kind c.in-Err.ensures.listed;
     }
 
@@ -36,7 +36,7 @@ loop-name-preserved g c =
     let (told, so_far) = c.loop-name.invariant.told in
     let name = (get_or names i nothing).now in
     let ends : EndsLines c.args.kind c.args.cuts.now opens name (contents c.loop-name.lines.w) (contents c.list_file.new.lines.w) (Ok c.in-Ok.whole) =
-    subst (λ (kind : LineKind). EndsLines kind c.args.cuts.now opens name (contents c.loop-name.lines.w)
+    subst (λ (kind : Sum). EndsLines kind c.args.cuts.now opens name (contents c.loop-name.lines.w)
     (contents c.list_file.new.lines.w) (Ok c.in-Ok.whole)) c.loop-name.invariant.kind c.in-Ok.ensures.listed in
     let file : Cut = (name, (ends.0, c.in-Ok.whole)) in
     record {

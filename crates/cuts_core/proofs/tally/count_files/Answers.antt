@@ -1,4 +1,4 @@
-use Rattle.cuts_core.proofs.Common.{◌∷◌, ◌++◌, [], ℕ, List, map, take, get_or, subst, sym, ◌∙◌, Cut, CountsMore, IsCounted, LineKind, sum_by, all_given, Bor, names_more}
+use Rattle.cuts_core.proofs.Common.{◌∷◌, ◌++◌, [], ℕ, List, map, take, get_or, subst, sym, ◌∙◌, Cut, CountsMore, IsCounted, Sum, sum_by, all_given, Bor, names_more}
 use Rattle.cuts_core.proofs.TallyLemmas.{cut_more, given_more}
 use Rattle.cuts_core.proofs.tally.count_files.Goals as goal
 
@@ -12,7 +12,7 @@ loop-name-preserved g c =
     let (given, is_cut, more) = c.in_ok-whole.ensures.counted in
     let file : Cut = ((get_or names i d).now, (given, c.in_ok-whole.whole)) in
     let new = c.count_file.new.tally in
-    let counts = subst (λ (kind : LineKind). CountsMore (sum_by kind) c.loop-name.tally new given) before.kind more in
+    let counts = subst (λ (kind : Sum). CountsMore (sum_by kind) c.loop-name.tally new given) before.kind more in
     record {
       kind = c.in_ok-whole.ensures.kind ∙ before.kind;
       counted = (

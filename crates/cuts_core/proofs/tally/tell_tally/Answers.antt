@@ -1,4 +1,4 @@
-use Rattle.cuts_core.proofs.Common.{inr, subst, ◌∙◌, IsCounted, LineKind, sum_by, writer_contents, all_given, AppendsPart}
+use Rattle.cuts_core.proofs.Common.{inr, subst, ◌∙◌, IsCounted, Sum, sum_by, writer_contents, all_given, AppendsPart}
 use Rattle.cuts_core.proofs.TallyLemmas.{lines_counted}
 use Rattle.cuts_core.proofs.tally.tell_tally.Goals as goal
 
@@ -7,7 +7,7 @@ returns-in-Ok-clause-told g c =
     let contents = writer_contents g.W.Write.contents in
     let (files, are_cut, counted) = c.in_ok-all.ensures in
     let tally = c.count_files.new.tally in
-    let counts = subst (λ (kind : LineKind). IsCounted (sum_by kind) (all_given files) tally) c.new-tally.ensures.kind counted in
+    let counts = subst (λ (kind : Sum). IsCounted (sum_by kind) (all_given files) tally) c.new-tally.ensures.kind counted in
     inr (
       files,
       c.in_ok-all.all,

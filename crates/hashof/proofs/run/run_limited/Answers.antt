@@ -7,7 +7,7 @@ use Rattle.std.proofs.Common.{rules}
 pub returns-in-Err : goal.returns-in-Err
 returns-in-Err g c =
     let run = run_of c.args.limit g.R.Read.remaining c.args.r.now c.hash_named.new.r g.W.Write.contents c.args.w.now c.args.w.now in
-    rw c.fault_of.ensures (ended_unread (named c.args.name.now) run c.in-Err.unhashed c.in-Err.ensures (search rules))
+    rw c.fault_of.ensures (ended_unread (named c.args.name.now) run c.in-Err.why c.in-Err.ensures (search rules))
 
 pub returns-in-Ok : goal.returns-in-Ok
 returns-in-Ok g c =

@@ -1,7 +1,7 @@
 use Rattle.hashsum_core.proofs.Common.{◌≡◌, ℕ, Some, true, false, refl, name_in, number_named, sum_of, takes_keys, wide_name, wide_of, Sum, Wide}
-use Rattle.hashsum_core.specs.declared.sums.Sum.TheVariants.{Table, Poly61, SipHash24}
-use Rattle.hashsum_core.specs.declared.sums.Sum.TheVariants as sum
-use Rattle.hashsum_core.specs.declared.sums.Wide.TheVariants as wide
+use Rattle.hash_lines.specs.declared.sums.Sum.TheVariants.{Table, Poly61, SipHash24}
+use Rattle.hash_lines.specs.declared.sums.Sum.TheVariants as sum
+use Rattle.hash_lines.specs.declared.sums.Wide.TheVariants as wide
 use Rattle.hashsum_core.proofs.LawLemmas.{row_is}
 use Rattle.hashsum_core.proofs.laws.each_kind_has_the_hash_of_its_name.Goals as goal
 

@@ -1,6 +1,6 @@
-use Rattle.hashsum_core.proofs.Common.{ℕ, ◌%◌, ◌^◌, ◌<◌, ◌≤◌, List, arith, lit<, lit≤, digits_of, LineKind, prime61, bits_of, both, Kind, Ported, Fnv1a32, sum_of, wide_of, width_in, width_of, IsText, Sum, Wide}
-use Rattle.hashsum_core.specs.declared.sums.Sum.TheVariants as sum
-use Rattle.hashsum_core.specs.declared.sums.Wide.TheVariants as wide
+use Rattle.hashsum_core.proofs.Common.{ℕ, ◌%◌, ◌^◌, ◌<◌, ◌≤◌, List, arith, lit<, lit≤, digits_of, prime61, bits_of, both, Kind, Ported, Fnv1a32, sum_of, wide_of, width_in, width_of, IsText, Sum, Wide}
+use Rattle.hash_lines.specs.declared.sums.Sum.TheVariants as sum
+use Rattle.hash_lines.specs.declared.sums.Wide.TheVariants as wide
 use Rattle.hash_theorems.proofs.RangeLemmas.{murmur3_below, spooky_below, xxh128_below}
 use Rattle.hashsum_core.proofs.FitLemmas.{siphash_below}
 use Rattle.hashsum_core.proofs.KeyLemmas.{in_64}
@@ -23,10 +23,9 @@ digits_for kind = lit≤ tt
 pub returns : goal.returns
 returns c = fits
   where
-    fits : (kind : LineKind) (which : Sum) (text : List ℕ) → kind.keys.0 < 2 ^ 64 → kind.keys.1 < 2 ^ 64 → IsText text
-        → sum_of kind.keys which text < 16 ^ digits_of (width_in which)
-    fits kind (sum.Table row) text first second is = omega (arith, c.each_hash_fits.ensures.read row text is, digits_for row)
-    fits kind (sum.Wide which) text first second is = wide_below which text
-    fits kind sum.Poly61 text first second is =
-        both_below (_, _) (in_64 (kind.keys.0 % prime61) text, in_64 (kind.keys.1 % prime61) text)
-    fits kind sum.SipHash24 text first second is = siphash_below 2 4 kind.keys.0 kind.keys.1 text first second is
+    fits : (keys : ℕ × ℕ) (which : Sum) (text : List ℕ) → keys.0 < 2 ^ 64 → keys.1 < 2 ^ 64 → IsText text
+        → sum_of keys which text < 16 ^ digits_of (width_in which)
+    fits keys (sum.Table row) text first second is = omega (arith, c.each_hash_fits.ensures.read row text is, digits_for row)
+    fits keys (sum.Wide which) text first second is = wide_below which text
+    fits keys sum.Poly61 text first second is = both_below (_, _) (in_64 (keys.0 % prime61) text, in_64 (keys.1 % prime61) text)
+    fits keys sum.SipHash24 text first second is = siphash_below 2 4 keys.0 keys.1 text first second is

@@ -12,8 +12,6 @@ use std::io::Read;
 /// Why there is no hash of what is read.
 #[derive(Debug)]
 pub enum Unhashed {
-    /// No hash has the name. Nothing was read.
-    UnknownName,
     /// A read failed.
     ReadFault(Fault),
     /// As many bytes were read as the limit allows, and no end was seen.

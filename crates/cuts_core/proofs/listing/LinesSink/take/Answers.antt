@@ -1,11 +1,11 @@
-use Rattle.cuts_core.proofs.Common.{◌≡◌, List, ℕ, ap₂, subst, ◌∙◌, chunk_line, LineKind, writer_contents, AppendsPart, Appends, on_err, part_none}
+use Rattle.cuts_core.proofs.Common.{◌≡◌, List, ℕ, ap₂, subst, ◌∙◌, chunk_line, Sum, writer_contents, AppendsPart, Appends, on_err, part_none}
 use Rattle.cuts_core.proofs.ListingLemmas.{listed_more, listed_part}
 use Rattle.cuts_core.proofs.listing.LinesSink.take.Goals as goal
 
 -- a line by the same hash and name
-same-line : (kind kind' : LineKind) (name name' : List ℕ) (place : ℕ) (chunk : List ℕ) → kind ≡ kind' → name ≡ name'
+same-line : (kind kind' : Sum) (name name' : List ℕ) (place : ℕ) (chunk : List ℕ) → kind ≡ kind' → name ≡ name'
     → chunk_line kind name place chunk ≡ chunk_line kind' name' place chunk
-same-line kind kind' name name' place chunk is_kind is_name = ap₂ (λ (k : LineKind) (n : List ℕ). chunk_line k n place chunk) is_kind is_name
+same-line kind kind' name name' place chunk is_kind is_name = ap₂ (λ (k : Sum) (n : List ℕ). chunk_line k n place chunk) is_kind is_name
 
 pub returns-in_default-clause-err : goal.returns-in_default-clause-err
 returns-in_default-clause-err g c start before (kind, name, listed, empty) = (
