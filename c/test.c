@@ -564,6 +564,24 @@ static void check_number_hash(void) {
     same("number_column of nothing", 1, hashers_number_column(keys, NULL, 0, NULL, 0));
 }
 
+static void check_map_hash(void) {
+    hashers_map_key key;
+    wide multiplier = (wide)0x0123456789abcdef << 64 | 0x0fedcba987654321;
+    for (size_t i = 0; i < 17; i++) {
+        key.words[2 * i] = (uint64_t)(multiplier >> 64), key.words[2 * i + 1] = (uint64_t)multiplier;
+        multiplier = multiplier * ((wide)0x9e3779b97f4a7c15 << 64 | 0xf39cc0605cedc835) + 1;
+    }
+    key.words[34] = 0xdeadbeefcafebabe, key.words[35] = 0x8badf00ddeadc0de, key.words[36] = 1234567;
+    unsigned char bytes[200];
+    for (size_t i = 0; i < 200; i++) bytes[i] = (unsigned char)(i * 37);
+    const struct { size_t n; uint64_t hash; } wanted[] = {{9, UINT64_C(4622286899896622519)}, {64, UINT64_C(15797489629508910292)}, {128, UINT64_C(695559789670581238)}, {129, UINT64_C(1833634219120750240)}, {200, UINT64_C(6365603775763803409)}};
+    for (size_t i = 0; i < sizeof wanted / sizeof *wanted; i++) same("map_hash", wanted[i].hash, hashers_map_hash(&key, bytes, wanted[i].n));
+    same("map_hash of no bytes", key.words[34], hashers_map_hash(&key, NULL, 0));
+    const hashers_number_key number = {key.words[0], key.words[1], key.words[34], key.words[35]};
+    uint64_t of = 255;
+    same("map_hash of a number", hashers_number_hash(&number, of), hashers_map_hash(&key, &of, sizeof of));
+}
+
 // Pages of which the middle one alone can be read and written.
 static unsigned char *pages(size_t page) {
     unsigned char *room = mmap(NULL, 3 * page, PROT_NONE, MAP_PRIVATE | MAP_ANONYMOUS, -1, 0);
@@ -686,6 +704,7 @@ int main(int argc, char **argv) {
     check_ending();
     check_keyed();
     check_number_hash();
+    check_map_hash();
     for (const struct kind *k = kinds; k < kinds + KINDS; k++) check_number(k);
     check_numbers();
     check_filter(hashers_spooky, hashers_lookup3, hashers_bloom_spooky_lookup3_insert, hashers_bloom_spooky_lookup3_contains);

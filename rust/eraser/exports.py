@@ -3,14 +3,14 @@ import re
 
 FUNCTION = re.compile(r"^pub fn (hashers_\w+)\(([^)]*)\)(?: -> (\w+))? \{", re.M)
 SLICE = re.compile(r"&(mut )?\[(u8|u32|u64|usize|Point)\]")
-STATE = re.compile(r"&(mut )?(SpookyState|Poly61Place|BlockState|Xxh3Place|NumberKey|Cutting)")
+STATE = re.compile(r"&(mut )?(SpookyState|Poly61Place|BlockState|Xxh3Place|NumberKey|MapKey|Cutting)")
 NUMBERS = {"u32", "u64", "usize"}
 ANSWERS = NUMBERS | {"", "bool", "Words", "SpookyState", "Poly61Place", "BlockState", "Xxh3Place"}
 HEAD = """\
 //! The calls of `c/hashers.h` over the erased functions, written by rust/erase. This file alone has unsafe code.
 use super::block::BlockState;
 use super::chunks::Cutting;
-use super::numbers::NumberKey;
+use super::numbers::{MapKey, NumberKey};
 use super::spooky::{SpookyState, Words};
 use super::*;
 use hashers_proved::hash_keyed::poly61::Poly61Place;

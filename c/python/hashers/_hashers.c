@@ -853,6 +853,22 @@ static PyObject *number_hash(TAKES) {
     return word(given[0], &it) < 0 || number_key(&given[1], &key) < 0 ? NULL : number(hashers_number_hash(&key, it));
 }
 
+// A key of a map, under the words of 296 bytes.
+static PyObject *map_hash(TAKES) {
+    TAKEN(given, {"map_hash", 2, 2, {"data", "key"}});
+    hashers_map_key key;
+    uint64_t hash;
+    held data;
+    if (hold(given[1], &data) < 0) return NULL;
+    int is = data.n == sizeof key ? 0 : refuse(PyExc_ValueError, "a key of map_hash has 296 bytes");
+    if (is == 0) memcpy(&key, data.at, sizeof key);
+    drop(&data);
+    if (is < 0 || hold(given[0], &data) < 0) return NULL;
+    OVER(data.n, hash = hashers_map_hash(&key, data.at, data.n));
+    drop(&data);
+    return number(hash);
+}
+
 static PyObject *combine(TAKES) {
     TAKEN(given, {"combine", 4, 4, {"name", "hash1", "hash2", "length2"}});
     uint64_t it[3];
@@ -1340,6 +1356,8 @@ static PyMethodDef functions[] = {
     CALL(number_hash, "number_hash($module, number, multiplier, addend)\n--\n\n"
                       "The hash of a number below 2^64 at a key of two numbers below 2^128: the high half of the low 128 bits of\n"
                       "multiplier * number + addend. At random keys k bits of two different numbers' hashes are the same at one key in 2^k."),
+    CALL(map_hash, "map_hash($module, data, key)\n--\n\nThe hash of a key of a map under a key of 296 bytes, such as os.urandom(296). At random keys k low and\n"
+                   "high bits of two inputs of up to 128 bytes, neither of which begins with the other, are the same at one key in 2^k."),
     CALL(combine, "combine($module, name, hash1, hash2, length2)\n--\n\n"
                   "The hash of two texts joined, from the hash of each and the length of the second in bytes. ValueError where the hash has\n"
                   "no such law: sdbm, loselose, passthrough, crc32 and crc32c have."),

@@ -604,6 +604,7 @@ class Buffers(unittest.TestCase):
             "made.hexdigest()", "(made.name, made.digest_size, made.block_size)", "_hashers._revived(text, (1, 2), state)",
             "_hashers._revived('spooky', (1, 2), state)", "_hashers._revived('djb2', (1, 2), state)", "_hashers._revived(text)",
             "hashers.spooky128(long, 1, 2)", "hashers.number_hash(1, 1 << 70, 3)", "hashers.number_hash(odd, odd, 1 << 130)",
+            "hashers.map_hash(long, bytes(296))", "hashers.map_hash(long, text)", "hashers.map_hash(text, bytes(296))",
             "hashers.number_column(array('Q', (1, 2)), 1 << 70, 3)", "_hashers._number_column(long, 1, 2, long)", "hashers.xxh128(long, 5)",
             "hashers.new('siphash13', long, key=bytes(16))", "hashers.new('siphash13', long, key=text)", "hashers.xxh64(long, seed=odd)",
             "hashers.spooky128(long, odd)", "hashers.spooky128_v1(text)", "hashers.poly61(long, 1)",
@@ -763,6 +764,19 @@ class Numbers(unittest.TestCase):
             out = (ctypes.c_uint64 * 5)()
             self.assertEqual(list(hashers.number_column(numbers, multiplier, addend, out)), wanted)
         self.assertEqual(list(hashers.number_column(array("q", ()), 1, 2)), [])
+
+    def test_keys_of_maps(self) -> None:
+        multipliers = [0x0123456789ABCDEF0FEDCBA987654321]
+        while len(multipliers) < 17:
+            multipliers.append((multipliers[-1] * 0x9E3779B97F4A7C15F39CC0605CEDC835 + 1) % (1 << 128))
+        wide = [*multipliers, 0xDEADBEEFCAFEBABE8BADF00DDEADC0DE]
+        key = array("Q", [word for it in wide for word in (it >> 64, it % (1 << 64))] + [1234567])
+        data = bytes(at * 37 % 256 for at in range(200))
+        for length, wanted in ((0, 16045690984503098046), (9, 4622286899896622519), (128, 695559789670581238), (129, 1833634219120750240), (200, 6365603775763803409)):
+            self.assertEqual(hashers.map_hash(data[:length], key), wanted)
+        self.assertEqual(hashers.map_hash((255).to_bytes(8, "little"), key), hashers.number_hash(255, wide[0], wide[17]))
+        for wrong in (b"", bytes(295), bytes(297)):
+            self.assertRaises(ValueError, hashers.map_hash, data, wrong)
 
     def test_numbers_that_are_refused(self) -> None:
         numbers = array("Q", (1, 2))

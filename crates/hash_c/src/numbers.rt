@@ -1,9 +1,13 @@
-//! Numbers under a key of the caller's: one, and a column of them.
-ghost use Rattle.std.specs.Prelude.{◌≡◌, ◌↔◌};
+//! Numbers under a key of the caller's: one, and a column of them; and keys of maps under a key.
+ghost use Rattle.std.specs.Prelude.{◌≡◌, ◌↔◌, ◌%◌, slice_index};
 ghost use Rattle.hash_c.specs.Common.{IsTrue, length, OnTrue, OnFalse};
 ghost use Rattle.hash_c.specs.Numbers.{AreNumberHashes, hash_at_key};
+ghost use Rattle.hash_keyed.specs.Poly61.{prime61};
+ghost use Rattle.hash_map_keys.specs.MapKeys.{map_hash, wide, wides};
 
 use hash_kinds::wide::both;
+use hash_map_keys::hasher::map_hash;
+use hash_map_keys::keys::MapKeys;
 use hash_numbers::number::number_hash;
 
 /// A multiplier and an addend of 128 bits, each in two halves.
@@ -48,4 +52,21 @@ pub extern "C" fn hashers_number_column(
         hashes[i] = number_hash(multiplier, addend, numbers[i]);
     }
     true
+}
+
+/// Keys for the keys of maps: of seventeen multipliers and an addend the high half before the low one, then the key for texts.
+#[repr(C)]
+#[derive(Clone, Copy)]
+pub struct MapKey {
+    pub words: [u64; 37],
+}
+
+/// The hash of a key of a map, at these.
+#[unsafe(no_mangle)]
+pub extern "C" fn hashers_map_hash(key: &MapKey, bytes: &[u8]) -> u64
+    ensures { result
+        ≡ map_hash (wides key.now.words 17 0) (wide key.now.words 34) (slice_index key.now.words 36 % prime61)
+        bytes.now }
+{
+    map_hash(&MapKeys::from_words(&key.words), bytes)
 }

@@ -1,5 +1,5 @@
 -- What the code's steps compute.
-use Rattle.hash_keyed.proofs.Common.{ℕ, ◌≡◌, ◌+◌, ◌*◌, ◌/◌, ◌%◌, ◌^◌, ◌<◌, ◌≤◌, List, [], ◌∷◌, ◌++◌, length, take, drop, slice_index, get_or, sym, ap, ap₂, ◌∙◌, arith, le_of_eq, length-drop, refl, pow_mono, mod-mod, mul-mod_first, mul-le, pow-add, shl_whole, take-append-drop, drop-append-le, take-append-le, drop_at, length-take-le, take_more, take-take, All-head, All-tail, All-take, IsText, le, IsByte, prime61, poly_step, poly_hash, Position, after, full_words, poly_end, as_word, ArePowers, block_sum, part_at, le-push, poly_end-is, length-append, take_all, append_assoc}
+use Rattle.hash_keyed.proofs.Common.{ℕ, ◌≡◌, ◌+◌, ◌*◌, ◌/◌, ◌%◌, ◌^◌, ◌<◌, ◌≤◌, List, [], ◌∷◌, ◌++◌, length, take, drop, get_or, sym, ap, ap₂, ◌∙◌, arith, le_of_eq, length-drop, refl, pow_mono, mod-mod, mul-mod_first, mul-le, pow-add, shl_whole, take-append-drop, drop-append-le, take-append-le, drop_at, length-take-le, take_more, take-take, All-head, All-tail, All-take, IsText, le, IsByte, prime61, poly_step, poly_hash, Position, after, full_words, poly_end, as_word, ArePowers, block_sum, part_at, le-push, poly_end-is, length-append, take_all, append_assoc}
 use Rattle.std.specs.Simd.{first_chunks}
 use Rattle.hash_keyed.proofs.Encoding.{le-lt}
 use Rattle.hash_keyed.proofs.ByWords.{same_step, four_steps, after-seven, after-four, after-few}

@@ -4,4 +4,4 @@ pub use Rattle.hash_keyed.proofs.Common.{◌%◌, ap, ◌∙◌, fold, concat, p
 pub use Rattle.hash_keyed.proofs.CodeLemmas.{places, ended_is, pushed-lt, pushed_small, answer_is, eight_more, seven_more, eight_there, low_word, high_word, four_there, chunk_more, LeadsOn}
 pub use Rattle.hash_keyed.proofs.NumberLemmas.{number_kept, number_fills, number_fills_two, rest-lt, le_bytes-halves}
 pub use Rattle.hash_keyed.proofs.PartLemmas.{joined-value, joined_is, rest-length, state_is, power_odd, power_even}
-pub use Rattle.hash_keyed.proofs.WriteLemmas.{after-writes, answer_of_text}
+pub use Rattle.hash_keyed.proofs.WriteLemmas.{answer_of_text}

@@ -1,6 +1,5 @@
 -- Counting keys, of any form, by a number that each has.
-use Rattle.hash_numbers.proofs.Common.{ℕ, Bool, zero, suc, ◌≡◌, ◌≢◌, ◌+◌, ◌*◌, ◌<◌, ◌≤◌, true, nat_eq, cond, List, [], ◌∷◌, length, get_or, map, All, AllPairs, eqb, refl, sym, ap, ◌∙◌, inl, inr, arith, list_any, cases_lt, Decides-eqb, eqb_tells, length-map, get_or-map, All-head, All-tail, All-map, sum_by-cons, eqb-true, eq-eqb, Any-from_list_any, IsDistinct-from_AllPairs, length-le_from_distinct_below}
-use Rattle.std.specs.List.{count_by}
+use Rattle.hash_numbers.proofs.Common.{ℕ, All, All-cons, All-head, All-map, All-nil, All-tail, AllPairs, AllPairs-cons, Any-from_list_any, Bool, Decides-eqb, IsDistinct-from_AllPairs, List, [], ap, arith, cases_Bool, cases_lt, cond, count_by, eq-eqb, eqb, eqb-true, eqb_tells, false, get_or, get_or-map, inl, inr, length, length-le_from_distinct_below, length-map, list_any, map, nat_eq, refl, suc, sum_by-cons, sym, true, zero, ◌*◌, ◌+◌, ◌<◌, ◌∙◌, ◌∷◌, ◌≡◌, ◌≢◌, ◌≤◌}
 
 -- ---- by a number that tells a key
 
@@ -97,6 +96,60 @@ lacking g most (suc n) c few below =
           omega (arith, bounded g most n before, ap g e)
     ]
 
+-- the numbers below one that have a mark
+pub those : (ℕ → Bool) → ℕ → List ℕ
+those mark zero = []
+those mark (suc n) = cond (mark n) (n ∷ those mark n) (those mark n)
+
+module _ (mark : ℕ → Bool) where
+  pub those_below : (n : ℕ) → All (λ c. c < n) (those mark n)
+  unfolding those
+  those_below zero = All-nil (λ c. c < 0)
+  those_below (suc n) =
+      let before : All (λ c. c < suc n) (those mark n) = λ i d h. omega (arith, those_below n i d h) in
+      elim (cases_Bool (mark n)) [
+        | inl has ↦ rw has (All-cons (λ c. c < suc n) n (those mark n) (omega arith) before)
+        | inr lacks ↦ rw lacks before
+      ]
+
+  pub those_marked : (n : ℕ) → All (λ c. mark c ≡ true) (those mark n)
+  unfolding those
+  those_marked zero = All-nil (λ c. mark c ≡ true)
+  those_marked (suc n) = elim (cases_Bool (mark n)) [
+    | inl has ↦ rw has (All-cons (λ c. mark c ≡ true) n (those mark n) has (those_marked n))
+    | inr lacks ↦ rw lacks (those_marked n)
+  ]
+
+  pub those_differ : (n : ℕ) → AllPairs ◌≢◌ (those mark n)
+  unfolding those
+  those_differ zero = λ i j d less within. absurd (omega (arith, within))
+  those_differ (suc n) = elim (cases_Bool (mark n)) [
+    | inl has ↦
+        rw has (AllPairs-cons ◌≢◌ n (those mark n) (λ i d h same. absurd (omega (arith, those_below n i d h, same))) (those_differ n))
+    | inr lacks ↦ rw lacks (those_differ n)
+  ]
+
+  sum_of_those : (extra n : ℕ) → total (λ c. cond (mark c) extra 0) n ≡ length (those mark n) * extra
+  unfolding those total
+  sum_of_those extra zero = omega arith
+  sum_of_those extra (suc n) = elim (cases_Bool (mark n)) [
+    | inl has ↦
+        let one : cond (mark n) extra 0 ≡ extra = ap (λ b. cond b extra 0) has in
+        let longer : length (cond (mark n) (n ∷ those mark n) (those mark n)) ≡ suc (length (those mark n)) =
+        ap (λ b. length (cond b (n ∷ those mark n) (those mark n))) has in
+        omega (arith, one, ap (λ k. k * extra) longer, sum_of_those extra n)
+    | inr lacks ↦
+        let one : cond (mark n) extra 0 ≡ 0 = ap (λ b. cond b extra 0) lacks in
+        let same : length (cond (mark n) (n ∷ those mark n) (those mark n)) ≡ length (those mark n) =
+        ap (λ b. length (cond b (n ∷ those mark n) (those mark n))) lacks in
+        omega (arith, one, ap (λ k. k * extra) same, sum_of_those extra n)
+  ]
+
+bounded_but : (g h : ℕ → ℕ) (most n : ℕ) → ((c : ℕ) → c < n → g c ≤ most + h c) → total g n ≤ n * most + total h n
+unfolding total
+bounded_but g h most zero few = omega arith
+bounded_but g h most (suc n) few = omega (arith, bounded_but g h most n (λ c below. few c (omega (arith, below))), few n (omega arith))
+
 -- ---- by a number that many keys have
 
 module _ {X : Type 0} (f : X → ℕ) where
@@ -126,3 +179,20 @@ module _ {X : Type 0} (f : X → ℕ) where
       → length keys ≡ n * most → c < n → count_by (having c) keys ≡ most
   just_its_share n most c keys below few all c_in =
       omega (arith, few c c_in, lacking (λ i. count_by (having i) keys) most n c few c_in, counted n keys below, all)
+
+  -- all are no more than the most that have one number, for each number, and so many more for each number with a mark
+  pub few_but_those : (mark : ℕ → Bool) (n most extra : ℕ) (keys : List X) → All (λ key. f key < n) keys
+      → ((i : ℕ) → i < n → mark i ≡ false → count_by (having i) keys ≤ most) → ((i : ℕ) → i < n → count_by (having i) keys ≤ extra)
+      → length keys ≤ n * most + length (those mark n) * extra
+  few_but_those mark n most extra keys below few all =
+      let each : (c : ℕ) → c < n → count_by (having c) keys ≤ most + cond (mark c) extra 0 =
+      λ c c_in. elim (cases_Bool (mark c)) [
+        | inl has ↦ omega (arith, all c c_in, ap (λ b. cond b extra 0) has)
+        | inr lacks ↦ omega (arith, few c c_in lacks)
+      ] in
+      omega (
+        arith,
+        counted n keys below,
+        bounded_but (λ c. count_by (having c) keys) (λ c. cond (mark c) extra 0) most n each,
+        sum_of_those mark extra n,
+      )

@@ -1,6 +1,5 @@
--- What follows where each pair of hashes of two numbers comes from no more keys than its share: keys of any form.
-use Rattle.hash_numbers.proofs.Common.{ℕ, ◌≡◌, ◌≢◌, ◌+◌, ◌-◌, ◌*◌, ◌/◌, ◌%◌, ◌^◌, ◌<◌, ◌≤◌, ◌&&◌, nat_eq, cond, List, [], ◌∷◌, length, get_or, filter, All, AllPairs, sym, ap, ap₂, ◌∙◌, inl, inr, subst, arith, mod-lt, div-add-mod, div-eq_of_lt, div-div-eq-div-mul, eqb_tells, mul-add-lt, pow_pos, All-head, filter_passes, All-filter, AllPairs-filter, length-filter, sum_by-same, have_hashes, count_by, eqb-true, eq-eqb, pow-add}
-use Rattle.std.specs.Cmp.Derive.{both_true}
+-- What follows where each pair of hashes of two keys of a map comes from no more keys than its share: keys of any form.
+use Rattle.hash_numbers.proofs.Common.{ℕ, All, All-filter, All-head, AllPairs, AllPairs-filter, List, [], ap, ap₂, arith, both_true, cond, count_by, div-add-mod, div-div-eq-div-mul, div-eq_of_lt, eq-eqb, eqb-true, eqb_tells, filter, filter_passes, get_or, have_hashes, inl, inr, length, length-filter, mod-lt, mul-add-lt, nat_eq, pow-add, pow_pos, subst, sum_by-same, sym, ◌%◌, ◌&&◌, ◌*◌, ◌+◌, ◌-◌, ◌/◌, ◌<◌, ◌^◌, ◌∙◌, ◌∷◌, ◌≡◌, ◌≢◌, ◌≤◌}
 use Rattle.hash_numbers.proofs.Counting.{few_in_all, having, just_its_share}
 use Rattle.hash_numbers.proofs.Odds.{same_by_places}
 
@@ -19,7 +18,7 @@ as_places a b u v b_in v_in = elim (eqb_tells (a * 2 ^ 64 + b) (u * 2 ^ 64 + v))
   ]
 ]
 
-module _ {X : Type 0} (is : X → Type 0) (hash : X → ℕ → ℕ) (hash_in : (k : X) (z : ℕ) → hash k z < 2 ^ 64) (e x y : ℕ)
+module _ {X Y : Type 0} (is : X → Type 0) (hash : X → Y → ℕ) (hash_in : (k : X) (z : Y) → hash k z < 2 ^ 64) (e : ℕ) (x y : Y)
     (even : (u v : ℕ) (keys : List X) → All is keys → AllPairs ◌≢◌ keys → All (λ k. (hash k x ≡ u) × (hash k y ≡ v)) keys
     → length keys ≤ 2 ^ e) where
   -- keys whose hashes stand in a relation, by a number that tells such hashes
@@ -123,15 +122,3 @@ module _ {X : Type 0} (is : X → Type 0) (hash : X → ℕ → ℕ) (hash_in : 
       subst (λ k. length keys ≤ 2 ^ k) (let l : e + 128 - bits - 0 ≡ e + 128 - bits = omega arith in l)
       (share_both bits 0 (omega (arith, within)) keys are differ
       (λ j any h. let k = get_or keys j any in (have j any h, div-eq_of_lt (hash_in k x) ∙ sym (div-eq_of_lt (hash_in k y)))))
-
-  pub share_high : (bits : ℕ) → bits ≤ 64 → (keys : List X) → All is keys → AllPairs ◌≢◌ keys
-      → All (λ k. hash k x / 2 ^ (64 - bits) ≡ hash k y / 2 ^ (64 - bits)) keys → length keys ≤ 2 ^ (e + 128 - bits)
-  share_high bits within keys are differ have =
-      subst (λ k. length keys ≤ 2 ^ k) (let l : e + 128 - 0 - bits ≡ e + 128 - bits = omega arith in l)
-      (share_both 0 bits (omega (arith, within)) keys are differ
-      (λ j any h. let k = get_or keys j any in (let l : hash k x % 1 ≡ hash k y % 1 = omega arith in l, have j any h)))
-
-  pub meet : (keys : List X) → All is keys → AllPairs ◌≢◌ keys → All (λ k. hash k x ≡ hash k y) keys → length keys ≤ 2 ^ (e + 64)
-  meet keys are differ have =
-      subst (λ k. length keys ≤ 2 ^ k) (let l : e + 128 - 64 ≡ e + 64 = omega arith in l)
-      (share_low 64 (omega arith) keys are differ (λ j any h. ap (λ z. z % 2 ^ 64) (have j any h)))

@@ -1,101 +1,73 @@
--- The laws of two different numbers, at pairs of a multiplier and an addend, and at triples of two multipliers and an addend.
-use Rattle.hash_numbers.proofs.Common.{ℕ, ◌≡◌, ◌≢◌, ◌+◌, ◌-◌, ◌*◌, ◌/◌, ◌%◌, ◌^◌, ◌<◌, ◌≤◌, List, length, All, AllPairs, arith, lit<, mod-lt, sum_by, meetings, ArePairs, number_hash, pair_hash, have_hashes, share_place, AreTriples, count_by}
-use Rattle.hash_numbers.proofs.FromEvenness.{exactly, meet, share_both, share_high, share_low}
-use Rattle.hash_numbers.proofs.Evenness.{even_pairs, even_triples}
+-- The laws of two different lists of n words, at n multipliers and an addend.
+use Rattle.hash_numbers.proofs.Common.{ℕ, ap, All, AllPairs, AreTables, AreWords, List, [], ap₂, arith, count_by, dot, have_hashes, length, meetings, number_hash, pair_hash, pow-add, share_place, sum_by, words_hash, ◌%◌, ◌*◌, ◌+◌, ◌-◌, ◌/◌, ◌<◌, ◌^◌, ◌∷◌, ◌≡◌, ◌≢◌, ◌≤◌}
+use Rattle.hash_numbers.proofs.FromEvenness.{exactly, share_both, share_low}
 use Rattle.hash_numbers.proofs.Meetings.{few_meetings_of}
+use Rattle.hash_numbers.proofs.Words as words
 
--- ---- pairs
+abbrev Table : Type 0
+Table = List ℕ × ℕ
 
-abbrev Pair : Type 0
-Pair = ℕ × ℕ
+module _ (n : ℕ) where
+  abbrev IsTable : Table → Type 0
+  IsTable key = (length key.0 ≡ n) × All (λ a. a < 2 ^ 128) key.0 × (key.1 < 2 ^ 128)
 
-abbrev IsPair : Pair → Type 0
-IsPair key = (key.0 < 2 ^ 128) × (key.1 < 2 ^ 128)
+  abbrev hash : Table → List ℕ → ℕ
+  hash key x = words_hash key.0 key.1 x
 
-abbrev by_pair : Pair → ℕ → ℕ
-by_pair key x = number_hash key.0 key.1 x
+  tell : (k l : Table) → IsTable k → IsTable l → k.0 ≡ l.0 → k.1 ≡ l.1 → k ≡ l
+  tell k l k_is l_is one two = ap₂ (λ (a : List ℕ) (b : ℕ). (a, b)) one two
 
-by_pair_in : (key : Pair) (x : ℕ) → by_pair key x < 2 ^ 64
-by_pair_in key x = omega (arith, mod-lt (key.0 * x + key.1) {m = 2 ^ 128} (lit< tt))
+  hash_in : (key : Table) (x : List ℕ) → hash key x < 2 ^ 64
+  hash_in = words.hash_in IsTable (λ k. k.0) (λ k. k.1) tell n (λ k is. (is.0, is.1)) (λ k is. is.2)
 
-even_of : (x y : ℕ) → x < 2 ^ 64 → y < 2 ^ 64 → x ≢ y → (u v : ℕ) (keys : List Pair) → All IsPair keys → AllPairs ◌≢◌ keys
-    → All (λ key. (by_pair key x ≡ u) × (by_pair key y ≡ v)) keys → length keys ≤ 2 ^ 128
-even_of x y x_in y_in apart u v keys are differ have = even_pairs x y u v keys x_in y_in apart record { below = are; differ = differ } have
+  even : (x y : List ℕ) → AreWords n x → AreWords n y → x ≢ y → (u v : ℕ) (keys : List Table) → All IsTable keys → AllPairs ◌≢◌ keys
+      → All (λ key. (hash key x ≡ u) × (hash key y ≡ v)) keys → length keys ≤ 2 ^ (128 * n)
+  even = words.even_words IsTable (λ k. k.0) (λ k. k.1) tell n (λ k is. (is.0, is.1)) (λ k is. is.2)
 
-pub exactly_even : (x y u v : ℕ) (keys : List Pair) → x < 2 ^ 64 → y < 2 ^ 64 → x ≢ y → u < 2 ^ 64 → v < 2 ^ 64
-    → ArePairs (2 ^ 128) keys → length keys ≡ 2 ^ 256 → count_by (λ key. have_hashes x y u v (by_pair key)) keys ≡ 2 ^ 128
-exactly_even x y u v keys x_in y_in apart u_in v_in are all =
-    exactly IsPair by_pair by_pair_in 128 x y (even_of x y x_in y_in apart) u v u_in v_in keys are.below are.differ all
+  share : (x y : List ℕ) (bits : ℕ) → AreWords n x → AreWords n y → x ≢ y → bits ≤ 64 → (keys : List Table) → All IsTable keys → AllPairs ◌≢◌ keys
+      → All (λ key. hash key x % 2 ^ bits ≡ hash key y % 2 ^ bits) keys → length keys ≤ 2 ^ (128 * n + 128 - bits)
+  share x y bits x_are y_are apart within = share_low IsTable hash hash_in (128 * n) x y (even x y x_are y_are apart) bits within
 
-pub few_pairs : (x y : ℕ) (keys : List Pair) → x < 2 ^ 64 → y < 2 ^ 64 → x ≢ y → ArePairs (2 ^ 128) keys
-    → All (λ key. by_pair key x ≡ by_pair key y) keys → length keys ≤ 2 ^ 192
-few_pairs x y keys x_in y_in apart are have =
-    meet IsPair by_pair by_pair_in 128 x y (even_of x y x_in y_in apart) keys are.below are.differ have
+pub even_pairs : (n : ℕ) (x y : List ℕ) (u v : ℕ) (keys : List Table) → AreWords n x → AreWords n y → x ≢ y → AreTables n keys
+    → All (λ key. (words_hash key.0 key.1 x ≡ u) × (words_hash key.0 key.1 y ≡ v)) keys → length keys ≤ 2 ^ (128 * n)
+even_pairs n x y u v keys x_are y_are apart are have = even n x y x_are y_are apart u v keys are.below are.differ have
 
-pub few_share_both : (x y low high : ℕ) (keys : List Pair) → x < 2 ^ 64 → y < 2 ^ 64 → x ≢ y → low + high ≤ 64 → ArePairs (2 ^ 128) keys
-    → All (λ key. (by_pair key x % 2 ^ low ≡ by_pair key y % 2 ^ low)
-    × (by_pair key x / 2 ^ (64 - high) ≡ by_pair key y / 2 ^ (64 - high))) keys → length keys ≤ 2 ^ (256 - low - high)
-few_share_both x y low high keys x_in y_in apart within are have =
-    share_both IsPair by_pair by_pair_in 128 x y (even_of x y x_in y_in apart) low high within keys are.below are.differ have
+pub exactly_even : (n : ℕ) (x y : List ℕ) (u v : ℕ) (keys : List Table) → AreWords n x → AreWords n y → x ≢ y → u < 2 ^ 64 → v < 2 ^ 64
+    → AreTables n keys → length keys ≡ 2 ^ (128 * n + 128)
+    → count_by (λ key. have_hashes x y u v (words_hash key.0 key.1)) keys ≡ 2 ^ (128 * n)
+exactly_even n x y u v keys x_are y_are apart u_in v_in are all =
+    exactly (IsTable n) (hash n) (hash_in n) (128 * n) x y (even n x y x_are y_are apart) u v u_in v_in keys are.below are.differ
+    (omega (arith, all, pow-add 2 (128 * n) 128))
 
-pub few_share_low : (x y bits : ℕ) (keys : List Pair) → x < 2 ^ 64 → y < 2 ^ 64 → x ≢ y → bits ≤ 64 → ArePairs (2 ^ 128) keys
-    → All (λ key. by_pair key x % 2 ^ bits ≡ by_pair key y % 2 ^ bits) keys → length keys ≤ 2 ^ (256 - bits)
-few_share_low x y bits keys x_in y_in apart within are have =
-    share_low IsPair by_pair by_pair_in 128 x y (even_of x y x_in y_in apart) bits within keys are.below are.differ have
+pub few_have : (n : ℕ) (x : List ℕ) (u : ℕ) (keys : List Table) → AreTables n keys → All (λ key. words_hash key.0 key.1 x ≡ u) keys
+    → length keys ≤ 2 ^ (128 * n + 64)
+few_have n x u keys are have =
+    words.one_hash (IsTable n) (λ k. k.0) (λ k. k.1) (tell n) n (λ k is. (is.0, is.1)) (λ k is. is.2) x u keys are.below are.differ have
 
-pub few_share_high : (x y bits : ℕ) (keys : List Pair) → x < 2 ^ 64 → y < 2 ^ 64 → x ≢ y → bits ≤ 64 → ArePairs (2 ^ 128) keys
-    → All (λ key. by_pair key x / 2 ^ (64 - bits) ≡ by_pair key y / 2 ^ (64 - bits)) keys → length keys ≤ 2 ^ (256 - bits)
-few_share_high x y bits keys x_in y_in apart within are have =
-    share_high IsPair by_pair by_pair_in 128 x y (even_of x y x_in y_in apart) bits within keys are.below are.differ have
+pub few_share : (n : ℕ) (x y : List ℕ) (low high : ℕ) (keys : List Table) → AreWords n x → AreWords n y → x ≢ y → low + high ≤ 64 → AreTables n keys
+    → All (λ key. (words_hash key.0 key.1 x % 2 ^ low ≡ words_hash key.0 key.1 y % 2 ^ low)
+    × (words_hash key.0 key.1 x / 2 ^ (64 - high) ≡ words_hash key.0 key.1 y / 2 ^ (64 - high))) keys
+    → length keys ≤ 2 ^ (128 * n + 128 - low - high)
+few_share n x y low high keys x_are y_are apart within are have =
+    share_both (IsTable n) (hash n) (hash_in n) (128 * n) x y (even n x y x_are y_are apart) low high within keys are.below are.differ have
 
-pub few_meetings : (numbers : List ℕ) (bits : ℕ) (keys : List Pair) → All (λ x. x < 2 ^ 64) numbers → AllPairs ◌≢◌ numbers → bits ≤ 64
-    → ArePairs (2 ^ 128) keys
-    → sum_by (λ key. meetings (share_place bits (by_pair key)) numbers) keys ≤ length numbers * (length numbers - 1) / 2 * 2 ^ (256 - bits)
-few_meetings numbers bits keys are_numbers differ within are =
-    few_meetings_of IsPair by_pair (λ x. x < 2 ^ 64) bits (2 ^ (256 - bits))
-    (λ x y x_in y_in apart some is differs have. few_share_low x y bits some x_in y_in apart within record { below = is; differ = differs } have)
-    keys are.below are.differ numbers are_numbers differ
+pub few_meetings : (n : ℕ) (texts : List (List ℕ)) (bits : ℕ) (keys : List Table) → All (AreWords n) texts → AllPairs ◌≢◌ texts → bits ≤ 64
+    → AreTables n keys
+    → sum_by (λ key. meetings (share_place bits (words_hash key.0 key.1)) texts) keys
+    ≤ length texts * (length texts - 1) / 2 * 2 ^ (128 * n + 128 - bits)
+few_meetings n texts bits keys are_words differ within are =
+    few_meetings_of (IsTable n) (hash n) (AreWords n) bits (2 ^ (128 * n + 128 - bits))
+    (λ x y x_are y_are apart some is differs have. share n x y bits x_are y_are apart within some is differs have)
+    keys are.below are.differ texts are_words differ
 
--- ---- triples
+-- ---- numbers are lists of one word and of two
 
-abbrev Triple : Type 0
-Triple = ℕ × ℕ × ℕ
+pub pair_words : (a a2 b x : ℕ) → pair_hash a a2 b x ≡ words_hash (a ∷ a2 ∷ []) b (x % 2 ^ 64 ∷ x / 2 ^ 64 ∷ [])
+unfolding dot
+pair_words a a2 b x =
+    ap (λ z. z % 2 ^ 128 / 2 ^ 64)
+    (let e : a * (x % 2 ^ 64) + a2 * (x / 2 ^ 64) + b ≡ a * (x % 2 ^ 64) + (a2 * (x / 2 ^ 64) + 0) + b = omega arith in e)
 
-abbrev IsTriple : Triple → Type 0
-IsTriple key = (key.0 < 2 ^ 128) × (key.1 < 2 ^ 128) × (key.2 < 2 ^ 128)
-
-abbrev by_triple : Triple → ℕ → ℕ
-by_triple key x = pair_hash key.0 key.1 key.2 x
-
-by_triple_in : (key : Triple) (x : ℕ) → by_triple key x < 2 ^ 64
-by_triple_in key x = omega (arith, mod-lt (key.0 * (x % 2 ^ 64) + key.1 * (x / 2 ^ 64) + key.2) {m = 2 ^ 128} (lit< tt))
-
-even_of_triples : (x y : ℕ) → x < 2 ^ 128 → y < 2 ^ 128 → x ≢ y → (u v : ℕ) (keys : List Triple) → All IsTriple keys → AllPairs ◌≢◌ keys
-    → All (λ key. (by_triple key x ≡ u) × (by_triple key y ≡ v)) keys → length keys ≤ 2 ^ 256
-even_of_triples x y x_in y_in apart u v keys are differ have =
-    even_triples x y u v keys x_in y_in apart record { below = are; differ = differ } have
-
-pub exactly_even_triples : (x y u v : ℕ) (keys : List Triple) → x < 2 ^ 128 → y < 2 ^ 128 → x ≢ y → u < 2 ^ 64 → v < 2 ^ 64
-    → AreTriples (2 ^ 128) keys → length keys ≡ 2 ^ 384 → count_by (λ key. have_hashes x y u v (by_triple key)) keys ≡ 2 ^ 256
-exactly_even_triples x y u v keys x_in y_in apart u_in v_in are all =
-    exactly IsTriple by_triple by_triple_in 256 x y (even_of_triples x y x_in y_in apart) u v u_in v_in keys are.below are.differ all
-
-pub few_triples : (x y : ℕ) (keys : List Triple) → x < 2 ^ 128 → y < 2 ^ 128 → x ≢ y → AreTriples (2 ^ 128) keys
-    → All (λ key. by_triple key x ≡ by_triple key y) keys → length keys ≤ 2 ^ 320
-few_triples x y keys x_in y_in apart are have =
-    meet IsTriple by_triple by_triple_in 256 x y (even_of_triples x y x_in y_in apart) keys are.below are.differ have
-
-pub few_triples_share_both : (x y low high : ℕ) (keys : List Triple) → x < 2 ^ 128 → y < 2 ^ 128 → x ≢ y → low + high ≤ 64
-    → AreTriples (2 ^ 128) keys → All (λ key. (by_triple key x % 2 ^ low ≡ by_triple key y % 2 ^ low)
-    × (by_triple key x / 2 ^ (64 - high) ≡ by_triple key y / 2 ^ (64 - high))) keys → length keys ≤ 2 ^ (384 - low - high)
-few_triples_share_both x y low high keys x_in y_in apart within are have =
-    share_both IsTriple by_triple by_triple_in 256 x y (even_of_triples x y x_in y_in apart) low high within keys are.below are.differ have
-
-pub few_meetings_of_triples : (numbers : List ℕ) (bits : ℕ) (keys : List Triple) → All (λ x. x < 2 ^ 128) numbers → AllPairs ◌≢◌ numbers
-    → bits ≤ 64 → AreTriples (2 ^ 128) keys
-    → sum_by (λ key. meetings (share_place bits (by_triple key)) numbers) keys ≤ length numbers * (length numbers - 1) / 2 * 2 ^ (384 - bits)
-few_meetings_of_triples numbers bits keys are_numbers differ within are =
-    few_meetings_of IsTriple by_triple (λ x. x < 2 ^ 128) bits (2 ^ (384 - bits))
-    (λ x y x_in y_in apart some is differs have.
-    share_low IsTriple by_triple by_triple_in 256 x y (even_of_triples x y x_in y_in apart) bits within some is differs have)
-    keys are.below are.differ numbers are_numbers differ
+pub number_words : (a b x : ℕ) → number_hash a b x ≡ words_hash (a ∷ []) b (x ∷ [])
+unfolding dot
+number_words a b x = ap (λ z. z % 2 ^ 128 / 2 ^ 64) (let e : a * x + b ≡ a * x + 0 + b = omega arith in e)

@@ -3,10 +3,7 @@ pub mod Odds
 pub mod Counting
 pub mod Multipliers
 pub mod Evenness
+pub mod Words
 pub mod FromEvenness
 pub mod Meetings
 pub mod KeyLaws
-pub mod Bytes
-pub mod States
-pub mod Pieces
-pub mod TwoKeys

@@ -1,7 +1,5 @@
-//! A keyed hash of numbers by one product and one sum, or two products, whose collisions are few over the keys.
+//! A keyed hash of numbers and lists of words by products and a sum, whose collisions are few over the keys.
 #![tactic(auto)]
 
-pub mod hasher;
-pub mod keys;
 pub mod laws;
 pub mod number;

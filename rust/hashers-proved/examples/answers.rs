@@ -1,12 +1,12 @@
 //! Reads lines `NAME HEX,HEX,..`, and prints for each the hash after the pieces, by a hasher. On the way it asserts, from the same bytes:
 //! what the function of the name answers to a single piece; that `unwrite` undoes `write` and the reverse; that `unfinish` finds the state;
 //! that the generic functions of `laws` answer the same; and that combined hashes are those of the joined text. `NAME@NUMBER,..` is a
-//! function of the module `keyed`: at keys, or from a state, a hash and a length; or a seed or a key of `blocks`, `xxh3` or `numbers`.
+//! function of the module `keyed`: at keys, or from a state, a hash and a length; or a seed or a key of `blocks`, `xxh3` or `map_keys`.
 use hashers_proved::blocks::*;
 use hashers_proved::jenkins::spooky_hash::*;
 use hashers_proved::keyed::*;
 use hashers_proved::laws::{self, HasherWrite, Piecewise, Streamed, Undo};
-use hashers_proved::numbers::NumberKeys;
+use hashers_proved::map_keys::{map_hash, MapKeys};
 use hashers_proved::promises::{xxh3_64_of_writes, xxh3_128_of_writes};
 use hashers_proved::xxh3::*;
 use hashers_proved::{fnv::*, fx_hash::*, jenkins::*, more::*, null::*, oz::*, pigeon::*};
@@ -159,7 +159,7 @@ fn answer(name: &str, p: &Pieces) -> u64 {
 
 /// The hash at a key, by a hasher and its copy, by the generic functions, and by the function.
 fn at_a_key(key: u64, pieces: &Pieces) -> u64 {
-    let mut h = Poly61Keys::with_key(key).build_hasher();
+    let mut h = Poly61Hasher::new(key);
     let mut again = h.fork();
     for p in pieces {
         h.write(p);
@@ -198,19 +198,19 @@ fn at_two_keys(first: u64, second: u64, pieces: &Pieces) -> String {
 }
 
 /// A key of a map in pieces, each in one write of its width, and of all its bytes.
-fn map_key(keys: NumberKeys, pieces: &Pieces) -> u64 {
-    let (mut h, mut again) = (keys.build_hasher(), keys.build_hasher());
+fn map_key(keys: MapKeys, pieces: &Pieces) -> u64 {
+    let mut h = keys.hashers().build_hasher();
     for p in pieces {
         match p[..] {
             [a] => h.write_u8(a),
             [a, b] => h.write_u16(u16::from_le_bytes([a, b])),
             [a, b, c, d] => h.write_u32(u32::from_le_bytes([a, b, c, d])),
-            [_, _, _, _, _, _, _, _] => h.write_u64(u64::from_le_bytes(p[..].try_into().unwrap())),
+            _ if p.len() == 8 => h.write_u64(u64::from_le_bytes(p[..].try_into().unwrap())),
+            _ if p.len() == 16 => h.write_u128(u128::from_le_bytes(p[..].try_into().unwrap())),
             _ => h.write(p),
         }
     }
-    again.write(&pieces.concat());
-    assert_eq!(again.finish(), h.finish());
+    assert_eq!(map_hash(&keys, &pieces.concat()), h.finish());
     h.finish()
 }
 
@@ -231,9 +231,9 @@ fn keyed(name: &str, numbers: &[u64], p: &Pieces) -> String {
         ("siphash24", &[k0, k1]) => by_the_block::<SipRule<2, 4>, 8>(SipKey { k0, k1 }, p).to_string(),
         ("xxh3", &[seed]) => under_a_seed(seed, p).0,
         ("xxh128", &[seed]) => under_a_seed(seed, p).1,
-        ("number_keys", &[m1, m0, n1, n0, a1, a0, key]) => {
-            let wide = |high, low| u128::from(high) << 64 | u128::from(low);
-            map_key(NumberKeys::with_keys(wide(m1, m0), wide(n1, n0), wide(a1, a0), key), p).to_string()
+        ("map_keys", &[ref wide @ .., key]) if wide.len() == 36 => {
+            let wide = |place: usize| u128::from(wide[2 * place]) << 64 | u128::from(wide[2 * place + 1]);
+            map_key(MapKeys::with_keys(std::array::from_fn(wide), wide(17), key), p).to_string()
         }
         ("poly61_pair", &[first, second]) => at_two_keys(first, second, p),
         ("poly61_state", &[key]) => poly61_state(key, &p.concat()).map_or("None".to_string(), |it| it.to_string()),

@@ -15,7 +15,7 @@ use crate::hash_keyed::poly61::Poly61Hasher;
 use crate::hash_laws::traits::Undo;
 use crate::hash_more::elf::ElfHasher;
 use crate::hash_blocks::murmur3::{Murmur3Hasher128, Murmur3Hasher32};
-use crate::hash_numbers::hasher::NumberHasher;
+use crate::hash_map_keys::hasher::MapHasher;
 use crate::hash_rounds::Turns;
 use crate::hash_laws::rules::{ByteHasher, ByteRule, UndoRule};
 use crate::hash_blocks::siphash::{SipHasher13, SipKey};
@@ -60,7 +60,7 @@ copies! {
     [R: BlockRule<N>, const N: usize] BlockHasher<R, N>;
     [] Poly61Hasher;
     [] Poly61Pair;
-    [] NumberHasher;
+    ['a] MapHasher<'a>;
 }
 
 /// `io::Write`, so that `io::copy` hashes a file, and a method `write`, which is `Hasher`'s where both traits are imported.
@@ -103,7 +103,7 @@ takes_bytes! {
     [R: BlockRule<N>, const N: usize] BlockHasher<R, N>;
     [] Poly61Hasher;
     [] Poly61Pair;
-    [] NumberHasher;
+    ['a] MapHasher<'a>;
 }
 #[cfg(feature = "std")]
 takes_bytes! {
@@ -343,94 +343,92 @@ pub(crate) fn random_word() -> u64 {
     real_std::hash::RandomState::new().build_hasher().finish()
 }
 
-/// Hashers by the polynomial at one key, for std's maps and sets. Take a random one where somebody else chooses what is hashed.
-#[derive(Clone, Copy)]
-pub struct Poly61Keys {
-    key: u64,
+/// Random keys for the keys of maps: a multiplier for each word of a key's first 128 bytes and for what is after them, an addend, and a key for
+/// texts, 296 bytes in all. They stay where they are: [`hashers`](MapKeys::hashers) is a reference to them.
+#[derive(Clone)]
+pub struct MapKeys {
+    pub(crate) multipliers: [u128; 17],
+    pub(crate) addend: u128,
+    pub(crate) text_key: u64,
 }
 
-impl Poly61Keys {
-    /// This key: any number, of which the remainder modulo 2^61 - 1 counts.
+impl MapKeys {
+    /// Fixed keys protect nothing: whoever knows them finds keys of maps that all meet. These are for tests, and for keys that you draw: any
+    /// numbers.
     #[inline]
-    pub const fn with_key(key: u64) -> Poly61Keys {
-        Poly61Keys { key }
+    pub const fn with_keys(multipliers: [u128; 17], addend: u128, text_key: u64) -> MapKeys {
+        MapKeys { multipliers, addend, text_key }
     }
 
-    /// A key from the randomness of std's `RandomState`, never 0, at which all texts have one hash. Each call has another one.
+    /// The same in 37 words: of each multiplier and of the addend the high half before the low one, then the key for texts.
+    #[inline]
+    pub fn from_words(words: &[u64; 37]) -> MapKeys {
+        let wide = |place: usize| u128::from(words[2 * place]) << 64 | u128::from(words[2 * place + 1]);
+        MapKeys::with_keys(core::array::from_fn(wide), wide(17), words[36])
+    }
+
+    /// Keys for one map alone, each of whose 37 words is drawn from the system: some microseconds on Unix, where `/dev/urandom` is read, and
+    /// else as long as 37 threads take to start. `MapHashers::default()` draws them once a process.
     #[cfg(feature = "std")]
-    pub fn random() -> Poly61Keys {
-        Poly61Keys::with_key(1 + random_word() % ((1 << 61) - 2))
+    pub fn random() -> MapKeys {
+        let drawn = MapKeys::from_words(&system_words());
+        MapKeys::with_keys(drawn.multipliers.map(|it| it.max(1)), drawn.addend, 1 + drawn.text_key % ((1 << 61) - 2))
     }
-}
 
-/// A random key, as std's `RandomState` has it: so a map by `default()`, and one that is collected, has a key of its own.
-#[cfg(feature = "std")]
-impl Default for Poly61Keys {
-    fn default() -> Poly61Keys {
-        Poly61Keys::random()
-    }
-}
-
-impl BuildHasher for Poly61Keys {
-    type Hasher = Poly61Hasher;
-
+    /// The hashers at these keys, for maps: `HashMap::with_hasher(keys.hashers())`.
     #[inline]
-    fn build_hasher(&self) -> Poly61Hasher {
-        Poly61Hasher::new(self.key)
+    pub const fn hashers(&self) -> MapHashers<'_> {
+        MapHashers { keys: self }
     }
 }
 
-/// Hashers of numbers at two multipliers and an addend, for std's maps and sets whose keys are numbers, pairs of them or short texts. A key of
-/// more than sixteen bytes has the hash `poly61`, at a key of its own. Take random ones where somebody else chooses the keys; never take fixed
-/// ones there.
+/// Words from the system. std gives none but the keys of `RandomState`, which a thread draws once and counts on from: where there is no
+/// `/dev/urandom`, each word is a hash under the keys of a thread of its own.
+#[cfg(feature = "std")]
+fn system_words() -> [u64; 37] {
+    let mut bytes = [[0; 8]; 37];
+    let file = real_std::fs::File::open("/dev/urandom");
+    match file.and_then(|mut file| real_std::io::Read::read_exact(&mut file, bytes.as_flattened_mut())) {
+        Ok(()) if cfg!(unix) => bytes.map(u64::from_le_bytes),
+        _ => bytes.map(|_| match real_std::thread::Builder::new().spawn(random_word) {
+            Ok(drawn) => drawn.join().unwrap_or_else(|_| random_word()),
+            Err(_) => random_word(),
+        }),
+    }
+}
+
+/// The hashers at some keys: a reference of eight bytes.
 #[derive(Clone, Copy)]
-pub struct NumberKeys {
-    multiplier: u128,
-    multiplier2: u128,
-    addend: u128,
-    text: Poly61Keys,
+pub struct MapHashers<'a> {
+    keys: &'a MapKeys,
 }
 
-impl NumberKeys {
-    /// These keys: any numbers.
+/// Random keys, which are drawn once a process: so a map by `default()`, and one that is collected, has them.
+#[cfg(feature = "std")]
+impl Default for MapHashers<'static> {
     #[inline]
-    pub const fn with_keys(multiplier: u128, multiplier2: u128, addend: u128, text_key: u64) -> NumberKeys {
-        NumberKeys { multiplier, multiplier2, addend, text: Poly61Keys::with_key(text_key) }
-    }
-
-    /// Keys from the randomness of std's `RandomState`. Each call has others.
-    #[cfg(feature = "std")]
-    pub fn random() -> NumberKeys {
-        let wide = || u128::from(random_word()) << 64 | u128::from(random_word());
-        NumberKeys { multiplier: wide(), multiplier2: wide(), addend: wide(), text: Poly61Keys::random() }
+    fn default() -> MapHashers<'static> {
+        static KEYS: real_std::sync::LazyLock<MapKeys> = real_std::sync::LazyLock::new(MapKeys::random);
+        KEYS.hashers()
     }
 }
 
-/// Random keys, as std's `RandomState` has them: so a map by `default()`, and one that is collected, has keys of its own.
-#[cfg(feature = "std")]
-impl Default for NumberKeys {
-    fn default() -> NumberKeys {
-        NumberKeys::random()
+impl<'a> BuildHasher for MapHashers<'a> {
+    type Hasher = MapHasher<'a>;
+
+    #[inline(always)]
+    fn build_hasher(&self) -> MapHasher<'a> {
+        MapHasher { keys: self.keys, sum: self.keys.addend, held: 0, rest: None }
     }
 }
 
-impl BuildHasher for NumberKeys {
-    type Hasher = NumberHasher;
-
-    #[inline]
-    fn build_hasher(&self) -> NumberHasher {
-        let NumberKeys { multiplier, multiplier2, addend, text } = *self;
-        NumberHasher { multiplier, multiplier2, addend, low: 0, high: 0, held: 0, text: text.build_hasher() }
-    }
-}
-
-/// A map of std under random keys: `NumberMap::default()` is an empty one.
+/// A map of std under the random keys of the process: `KeyMap::default()` is an empty one.
 #[cfg(feature = "std")]
-pub type NumberMap<K, V> = real_std::collections::HashMap<K, V, NumberKeys>;
+pub type KeyMap<K, V> = real_std::collections::HashMap<K, V, MapHashers<'static>>;
 
-/// A set of std under random keys.
+/// A set of std under the same keys.
 #[cfg(feature = "std")]
-pub type NumberSet<K> = real_std::collections::HashSet<K, NumberKeys>;
+pub type KeySet<K> = real_std::collections::HashSet<K, MapHashers<'static>>;
 
 /// Hashers by SipHash-1-3 under one key, for std's maps and sets, as std's `RandomState` has them. Take a random key where somebody else
 /// chooses what is hashed: that it protects is what SipHash's authors claim, and nothing that is proved.
@@ -492,8 +490,18 @@ tells_no_key! {
     [R: BlockRule<N>, const N: usize] BlockHasher<R, N>;
     [] Poly61Hasher;
     [] Poly61Pair;
-    [] Poly61Keys;
-    [] NumberHasher;
-    [] NumberKeys;
+    [] MapKeys;
     [] SipKeys;
+}
+
+impl fmt::Debug for MapHashers<'_> {
+    fn fmt(&self, f: &mut fmt::Formatter) -> fmt::Result {
+        f.write_str("MapHashers { .. }")
+    }
+}
+
+impl fmt::Debug for MapHasher<'_> {
+    fn fmt(&self, f: &mut fmt::Formatter) -> fmt::Result {
+        f.write_str("MapHasher { .. }")
+    }
 }

@@ -104,8 +104,15 @@ pub mod hash_keyed {
 }
 #[doc(hidden)]
 pub mod hash_numbers {
-    pub mod hasher;
     pub mod number;
+}
+#[doc(hidden)]
+pub mod hash_map_keys {
+    pub mod hasher;
+    pub mod keys {
+        pub use crate::extras::MapKeys;
+    }
+    mod words;
 }
 #[cfg(not(feature = "std"))]
 #[doc(hidden)]
@@ -401,51 +408,56 @@ pub mod xxh3 {
 /// to n bytes one hash. That is proved of the Rattle text, by laws that have no code. It is no protection against who sees hashes or times.
 /// `Debug` shows no key.
 ///
-#[cfg_attr(feature = "std", doc = "```")]
-#[cfg_attr(not(feature = "std"), doc = "```ignore")]
-/// use hashers_proved::keyed::{poly61, Poly61Keys};
-/// use std::collections::HashMap;
+/// ```
+/// use hashers_proved::keyed::poly61;
 ///
-/// // a map under a random key, for words that strangers send
-/// let mut counts: HashMap<&str, u32, Poly61Keys> = HashMap::default();
-/// for word in "to be or not to be".split(' ') {
-///     *counts.entry(word).or_default() += 1;
-/// }
-/// assert_eq!(counts["be"], 2);
 /// // the hash of a text at a key of one's own
 /// assert_eq!(poly61(7, b"a"), 2520);
 /// ```
 pub mod keyed {
-    #[doc(inline)]
-    pub use crate::extras::Poly61Keys;
     #[doc(inline)]
     pub use crate::hash_keyed::{pair::*, parts::*, poly61::*};
 }
 
 /// A hash of numbers at a key: the high half of the 128 bits of a product and a sum (Dietzfelbinger 1996), with a product more for a second
 /// word. Over all keys any two hashes are two random numbers, so k bits of them are the same at one key in 2^k, whatever the two numbers.
-/// That is proved of the Rattle text, by laws that have no code. It is no protection against who sees hashes, the order of a map or times,
-/// nor at a key that is known. `Debug` shows no key.
+/// That is proved of the Rattle text, by laws that have no code. It is no protection against who sees hashes or times, nor at a key that is
+/// known. For maps there is [`map_keys`].
+pub mod numbers {
+    #[doc(inline)]
+    pub use crate::hash_numbers::number::*;
+}
+
+/// One hasher for all keys of maps that strangers choose: each word of a key's first 128 bytes times a random multiplier of its own, `poly61` of
+/// the bytes after them times one more, and an addend; the hash is the high half of the 128 bits. Of two keys of one type that were chosen
+/// without knowing the random ones, any k low and high bits together, as a map's place and tag, are the same with a chance of at most 1 / 2^k;
+/// where both have more than 128 bytes, n the longer one after them, of at most 1 / 2^k + (n / 7 + 2) / (2^61 - 1). That is proved of the Rattle
+/// text, by laws that have no code. It is no protection against who sees hashes, the order of a map or times. `Debug` shows no key.
 ///
 #[cfg_attr(feature = "std", doc = "```")]
 #[cfg_attr(not(feature = "std"), doc = "```ignore")]
-/// use hashers_proved::numbers::NumberMap;
+/// use hashers_proved::map_keys::{KeyMap, MapHashers, MapKeys};
+/// use std::collections::HashMap;
 ///
-/// // a map under random keys, for numbers that strangers send
-/// let mut counts: NumberMap<u64, u32> = NumberMap::default();
-/// for number in [7, 1 << 40, 7] {
-///     *counts.entry(number).or_default() += 1;
+/// // a map under random keys of the process, for words that strangers send
+/// let mut counts: KeyMap<&str, u32> = KeyMap::default();
+/// for word in "to be or not to be".split(' ') {
+///     *counts.entry(word).or_default() += 1;
 /// }
-/// assert_eq!(counts[&7], 2);
+/// assert_eq!(counts["be"], 2);
+/// // one with keys of its own
+/// let keys = MapKeys::random();
+/// let mut ages: HashMap<(u64, &str), u8, MapHashers> = HashMap::with_hasher(keys.hashers());
+/// ages.insert((1815, "Ada"), 36);
 /// ```
-pub mod numbers {
-    #[doc(inline)]
-    pub use crate::extras::NumberKeys;
+pub mod map_keys {
     #[cfg(feature = "std")]
     #[doc(inline)]
-    pub use crate::extras::{NumberMap, NumberSet};
+    pub use crate::extras::{KeyMap, KeySet};
     #[doc(inline)]
-    pub use crate::hash_numbers::{hasher::*, number::*};
+    pub use crate::extras::{MapHashers, MapKeys};
+    #[doc(inline)]
+    pub use crate::hash_map_keys::hasher::*;
 }
 
 /// std's own hasher, under the path that the crate hashers 1.0.1 gives it. It is no part of the proof.

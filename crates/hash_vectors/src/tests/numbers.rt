@@ -1,6 +1,7 @@
 //! Numbers under keys: values that Python computed, and what the source of keys gives.
 use crate::tests::same;
-use hash_numbers::keys::{NumberKeys, hash_one_number, hash_one_pair};
+use hash_map_keys::hasher::map_hash;
+use hash_map_keys::keys::MapKeys;
 use hash_numbers::number::{number_hash, pair_hash};
 use std::hash::{BuildHasher, Hasher};
 use std::io;
@@ -42,6 +43,123 @@ fn hashes_of_two_words(rt: HostRuntime) {
     }
 }
 
+/// Keys of maps, from one number on.
+fn keys() -> MapKeys {
+    let mut multipliers = [MULTIPLIER; 17];
+    for at in 1..17 {
+        multipliers[at] = multipliers[at - 1]
+            .wrapping_mul(OTHER_MULTIPLIER)
+            .wrapping_add(1);
+    }
+    MapKeys::with_keys(multipliers, ADDEND, 1234567)
+}
+
+/// Two hundred bytes.
+fn bytes() -> [u8; 200] {
+    let mut bytes = [0; 200];
+    for at in 1..200usize {
+        bytes[at] = (at * 37 % 256) as u8;
+    }
+    bytes
+}
+
+/// The hash of the first so many of the bytes.
+fn of_first(count: usize) -> u64 {
+    let text = bytes();
+    map_hash(&keys(), text.split_at(count.min(200)).0)
+}
+
+#[test]
+fn hashes_of_keys_of_maps(rt: HostRuntime) {
+    same(
+        &rt,
+        &[
+            of_first(0),
+            of_first(7),
+            of_first(9),
+            of_first(16),
+            of_first(64),
+            of_first(127),
+            of_first(128),
+            of_first(129),
+            of_first(135),
+            of_first(200),
+        ],
+        &[
+            16045690984503098046,
+            4668439202918017217,
+            4622286899896622519,
+            13018532440386120669,
+            15797489629508910292,
+            4871536863150292029,
+            695559789670581238,
+            1833634219120750240,
+            11500040796088320301,
+            6365603775763803409,
+        ],
+    );
+}
+
+/// Writes of many widths, in words, across them and after the first 128 bytes.
+#[test]
+fn keys_of_maps_in_pieces(rt: HostRuntime) {
+    let keys = keys();
+    let text = bytes();
+    let mut hasher = keys.hashers().build_hasher();
+    hasher.write(&text[..5]);
+    hasher.write_u64(0xbc97724d2803deb9);
+    hasher.write(&text[13..130]);
+    hasher.write_u8(text[130]);
+    hasher.write(&text[131..]);
+    same(&rt, &[hasher.finish()], &[6365603775763803409]);
+}
+
+#[test]
+fn keys_of_maps_of_many_types(rt: HostRuntime) {
+    let keys = keys();
+    let of = keys.hashers();
+    same(
+        &rt,
+        &[
+            of.hash_one::<u64>(255),
+            of.hash_one::<u8>(255),
+            number_hash(MULTIPLIER, ADDEND, 255),
+        ],
+        &[58512787288153055; 3],
+    );
+    same(
+        &rt,
+        &[
+            of.hash_one::<(u64, u64)>((5, 6)),
+            of.hash_one::<u128>(1 << 127),
+        ],
+        &[9619221137405589398, 11411524967980437929],
+    );
+    same(
+        &rt,
+        &[of.hash_one::<(u64, u64, u64)>((5, 6, 7))],
+        &[13045242297722287173],
+    );
+    same(
+        &rt,
+        &[of.hash_one("seven77"), of.hash_one(("Ada", 36u32))],
+        &[10609678410233846511, 13422153889259647353],
+    );
+    same(
+        &rt,
+        &[
+            of.hash_one(("Ada", 36u64 << 40)),
+            of.hash_one((1815u64, "Ada Lovelace")),
+        ],
+        &[2272154595059653516, 1735720109138093803],
+    );
+    same(
+        &rt,
+        &[of.hash_one((5u8, 1u128 << 127))],
+        &[13221633870271036051],
+    );
+}
+
 /// A source of bytes that are all 7.
 struct Sevens;
 
@@ -55,20 +173,8 @@ impl RandomSource for Sevens {
 /// What is drawn is what the source gives: the multipliers and the addend are its bytes, and the key for texts is below the prime.
 #[test]
 fn keys_are_what_the_source_gives(rt: HostRuntime) {
-    let sevens = u128::from_le_bytes([7; 16]);
-    let text_key = 1 + u64::from_le_bytes([7; 8]) % ((1 << 61) - 2);
-    let wanted = NumberKeys::with_keys(sevens, sevens, sevens, text_key);
-    match NumberKeys::new(&Sevens) {
-        Ok(keys) => same(&rt, &of_each_sort(&keys), &of_each_sort(&wanted)),
+    match MapKeys::new(&Sevens) {
+        Ok(keys) => same(&rt, &[map_hash(&keys, &bytes())], &[5931894172722287186]),
         Err(_) => panic!(rt; "the source gives bytes"),
     }
-}
-
-/// The hashes of a number, a pair and a longer text.
-fn of_each_sort(keys: &NumberKeys) -> [u64; 3] {
-    [
-        hash_one_number(keys, 1),
-        hash_one_pair(keys, (1, 1)),
-        keys.hash_one("more than sixteen letters"),
-    ]
 }

@@ -212,15 +212,14 @@ fn lookup_and_insert<'a, K: Hash + Eq + Copy, S: BuildHasher + Clone + 'a>(keys:
     [Box::new(move || keys.iter().fold(0, |sum, key| sum ^ full[key] as u64)), Box::new(insert)]
 }
 
-/// A row of numbers or texts as keys of std's map, under random keys but for fx: of each hash a lookup and an insert. Each placement makes
+/// A row of keys of std's map, under random keys but for fx: of each hash a lookup and an insert. Each placement makes
 /// the maps in another order, since large ones are a fifth faster or slower by the pages of memory that they get.
 fn numbers_of<'a, K: Hash + Eq + Copy>(name: &str, keys: &'a [K]) {
-    let sides: [&dyn Fn() -> [Work<'a>; 2]; 5] = [
-        &|| lookup_and_insert(keys, ours::numbers::NumberKeys::random()),
+    let sides: [&dyn Fn() -> [Work<'a>; 2]; 4] = [
+        &|| lookup_and_insert(keys, ours::map_keys::MapHashers::default()),
         &|| lookup_and_insert(keys, BuildHasherDefault::<fxhash::FxHasher64>::default()),
         &|| lookup_and_insert(keys, ahash::RandomState::new()),
         &|| lookup_and_insert(keys, RandomState::new()),
-        &|| lookup_and_insert(keys, ours::keyed::Poly61Keys::random()),
     ];
     let first = env!("MEASURE_RUST_BEHIND").parse::<usize>().unwrap() / 16 % sides.len();
     let order: Vec<usize> = (0..sides.len()).map(|at| (first + at) % sides.len()).collect();
@@ -244,10 +243,18 @@ fn numbers_as_keys() {
     numbers_of("1,000 random pairs of u64", &thousand.iter().map(|it| (*it, it.rotate_left(32))).collect::<Vec<_>>());
     numbers_of("1,000,000 random u64", &million);
     numbers_of("1,000,000 random u32", &low(&million));
-    for letters in [7, 8, 15, 16] {
-        let texts: Vec<String> = thousand.iter().map(|it| format!("{it:016x}")[..letters].to_string()).collect();
-        numbers_of(&format!("1,000 texts of {letters} letters"), &texts.iter().map(String::as_str).collect::<Vec<_>>());
+    numbers_of("1,000 of three u64", &thousand.iter().map(|it| (*it, it.rotate_left(32), !it)).collect::<Vec<_>>());
+    let letters_of = |count: fn(u64) -> usize| thousand.iter().map(|it| format!("{it:016x}").repeat(13)[..count(*it)].to_string()).collect();
+    let counts: [(&str, fn(u64) -> usize); 10] = [
+        ("4", |_| 4), ("8", |_| 8), ("15", |_| 15), ("16", |_| 16), ("24", |_| 24), ("40", |_| 40), ("100", |_| 100), ("200", |_| 200),
+        ("5 to 12", |it| 5 + (it >> 40) as usize % 8), ("4 to 60", |it| 4 + (it >> 40) as usize % 57),
+    ];
+    for (name, count) in counts {
+        let texts: Vec<String> = letters_of(count);
+        numbers_of(&format!("1,000 texts of {name} letters"), &texts.iter().map(String::as_str).collect::<Vec<_>>());
     }
+    let texts: Vec<String> = letters_of(|_| 6);
+    numbers_of("1,000 of 6 letters and a u32", &texts.iter().zip(thousand).map(|(it, of)| (it.as_str(), *of as u32)).collect::<Vec<_>>());
 }
 
 /// The hashers of other crates beside the hash of that name: the same hash, and beside fx ahash, which is another one.

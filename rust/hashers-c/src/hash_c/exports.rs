@@ -1,7 +1,7 @@
 //! The calls of `c/hashers.h` over the erased functions, written by rust/erase. This file alone has unsafe code.
 use super::block::BlockState;
 use super::chunks::Cutting;
-use super::numbers::NumberKey;
+use super::numbers::{MapKey, NumberKey};
 use super::spooky::{SpookyState, Words};
 use super::*;
 use hashers_proved::hash_keyed::poly61::Poly61Place;
@@ -537,6 +537,17 @@ pub unsafe extern "C" fn hashers_number_column(
 ) -> bool {
     // SAFETY: as said above.
     unsafe { numbers::hashers_number_column(key, slice(numbers, numbers_count), slice_mut(hashes, hashes_count)) }
+}
+
+/// See `hashers.h`.
+///
+/// # Safety
+///
+/// Each pointer and its count are so many items that nothing else writes during the call.
+#[no_mangle]
+pub unsafe extern "C" fn hashers_map_hash(key: &MapKey, bytes: *const u8, bytes_count: usize) -> u64 {
+    // SAFETY: as said above.
+    unsafe { numbers::hashers_map_hash(key, slice(bytes, bytes_count)) }
 }
 
 /// See `hashers.h`.

@@ -1,9 +1,11 @@
-//! Numbers under a key of the caller's: one, and a column of them.
+//! Numbers under a key of the caller's: one, and a column of them; and keys of maps under a key.
 
 // What follows is the proved text of crates/hash_c/src/numbers.rt without its contracts.
-use hashers_proved::{hash_kinds, hash_numbers};
+use hashers_proved::{hash_kinds, hash_map_keys, hash_numbers};
 
 use hash_kinds::wide::both;
+use hash_map_keys::hasher::map_hash;
+use hash_map_keys::keys::MapKeys;
 use hash_numbers::number::number_hash;
 
 /// A multiplier and an addend of 128 bits, each in two halves.
@@ -56,4 +58,25 @@ pub fn hashers_number_column(
         hashes[i] = number_hash(multiplier, addend, numbers[i]);
     }
     true
+}
+
+/// Keys for the keys of maps: of seventeen multipliers and an addend the high half before the low one, then the key for texts.
+#[repr(C)]
+#[derive(Clone, Copy)]
+pub struct MapKey {
+    pub words: [u64; 37],
+}
+
+/// The hash of a key of a map, at these.
+///
+/// Proved:
+///
+/// ```text
+/// result
+///     ≡ map_hash (wides key.now.words 17 0) (wide key.now.words 34) (slice_index key.now.words 36 % prime61)
+///     bytes.now
+/// ```
+#[inline]
+pub fn hashers_map_hash(key: &MapKey, bytes: &[u8]) -> u64 {
+    map_hash(&MapKeys::from_words(&key.words), bytes)
 }

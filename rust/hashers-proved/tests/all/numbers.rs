@@ -1,6 +1,6 @@
-//! Numbers at keys.
-use hashers_proved::keyed::poly61;
-use hashers_proved::numbers::{number_hash, pair_hash, NumberKeys};
+//! Numbers at keys, and keys of maps.
+use hashers_proved::map_keys::{map_hash, MapHashers, MapKeys};
+use hashers_proved::numbers::{number_hash, pair_hash};
 use std::hash::{BuildHasher, Hasher};
 
 const MULTIPLIER: u128 = 0x0123456789abcdef0fedcba987654321;
@@ -8,35 +8,14 @@ const MULTIPLIER2: u128 = 0x9e3779b97f4a7c15f39cc0605cedc835;
 const ADDEND: u128 = 0xdeadbeefcafebabe8badf00ddeadc0de;
 const OF_255: u64 = 58512787288153055;
 
-fn keys() -> NumberKeys {
-    NumberKeys::with_keys(MULTIPLIER, MULTIPLIER2, ADDEND, 7)
-}
-
 #[test]
 fn numbers_at_keys() {
     let wanted = [(0, 16045690984503098046), (1, 16127676513719584941), (255, OF_255), (1 << 32, 7519195941655316072), (u64::MAX, 17111502864317427696)];
     for (number, hash) in wanted {
         assert_eq!(number_hash(MULTIPLIER, ADDEND, number), hash);
-        assert_eq!(keys().hash_one(number), hash);
     }
-}
-
-/// A key of up to eight bytes is one number, whatever its type.
-#[test]
-fn keys_of_one_number() {
-    let hashes = [keys().hash_one(255u8), keys().hash_one(255u16), keys().hash_one(255u32), keys().hash_one(255usize), keys().hash_one(255i64)];
-    assert_eq!((hashes, keys().hash_one("")), ([OF_255; 5], OF_255));
-    assert_eq!(keys().hash_one(usize::MAX), keys().hash_one(usize::MAX as u64));
-    assert_eq!(keys().hash_one((5u32, 6u32)), number_hash(MULTIPLIER, ADDEND, 5 + (6 << 32)));
-    assert_eq!(keys().hash_one("seven77"), number_hash(MULTIPLIER, ADDEND, u64::from_le_bytes(*b"seven77\xff")));
-}
-
-/// One of up to sixteen bytes is a number of two words.
-#[test]
-fn keys_of_two_words() {
-    let of_a_pair = 11072931251686516973;
     let wanted = [
-        (5 | 6 << 64, of_a_pair),
+        (5 | 6 << 64, 11072931251686516973),
         (1 << 64, 8999661730116744916),
         (1 << 127, 15599377431494237913),
         (u128::MAX, 4818160938976508943),
@@ -44,40 +23,113 @@ fn keys_of_two_words() {
     ];
     for (number, hash) in wanted {
         assert_eq!(pair_hash(MULTIPLIER, MULTIPLIER2, ADDEND, number), hash);
-        assert_eq!((keys().hash_one(number), keys().hash_one(number as i128)), (hash, hash));
-        assert_eq!(keys().hash_one((number as u64, (number >> 64) as u64)), hash);
     }
-    assert_eq!((keys().hash_one((5u64, 6u32)), keys().hash_one((5usize, 6u8))), (of_a_pair, of_a_pair));
-    assert_eq!((keys().hash_one("eightlet"), keys().hash_one("fifteen letters")), (14856033719482826798, 12314804339668801018));
 }
 
-/// A longer one has the hash `poly61` of its bytes.
+/// The multipliers of these tests.
+fn multipliers() -> [u128; 17] {
+    let mut next = MULTIPLIER;
+    std::array::from_fn(|_| {
+        let it = next;
+        next = next.wrapping_mul(MULTIPLIER2).wrapping_add(1);
+        it
+    })
+}
+
+fn keys() -> &'static MapKeys {
+    Box::leak(Box::new(MapKeys::with_keys(multipliers(), ADDEND, 1234567)))
+}
+
+fn of() -> MapHashers<'static> {
+    keys().hashers()
+}
+
+/// A key of up to eight bytes is one number, whatever its type.
+#[test]
+fn keys_of_one_number() {
+    let hashes = [of().hash_one(255u8), of().hash_one(255u16), of().hash_one(255u32), of().hash_one(255usize), of().hash_one(255i64)];
+    assert_eq!((hashes, of().hash_one("")), ([OF_255; 5], OF_255));
+    assert_eq!(of().hash_one(usize::MAX), number_hash(MULTIPLIER, ADDEND, u64::MAX));
+    assert_eq!(of().hash_one((5u32, 6u32)), number_hash(MULTIPLIER, ADDEND, 5 + (6 << 32)));
+    assert_eq!(of().hash_one("seven77"), number_hash(MULTIPLIER, ADDEND, u64::from_le_bytes(*b"seven77\xff")));
+}
+
+/// One of up to sixteen bytes is a number of two words.
+#[test]
+fn keys_of_two_words() {
+    for number in [5 | 6 << 64, 1 << 127, u128::MAX] {
+        let hash = pair_hash(MULTIPLIER, multipliers()[1], ADDEND, number);
+        assert_eq!((of().hash_one(number), of().hash_one(number as i128)), (hash, hash));
+        assert_eq!(of().hash_one((number as u64, (number >> 64) as u64)), hash);
+    }
+    assert_eq!((of().hash_one((5u64, 6u32)), of().hash_one((5usize, 6u8))), (9619221137405589398, 9619221137405589398));
+}
+
 #[test]
 fn longer_keys() {
-    assert_eq!(keys().hash_one("sixteen letters!"), poly61(7, b"sixteen letters!\xff"));
-    assert_eq!(keys().hash_one("sixteen letters!"), 706860878803824320);
-    assert_eq!(keys().hash_one("a text of more words"), 16804556063748848471);
-    assert_eq!(keys().hash_one((5u64, 6u64, 7u64)), 9223372036995250828);
-    assert_eq!(keys().hash_one((1u8, 5u128)), poly61(7, &[&[1], &5u128.to_le_bytes()[..]].concat()));
+    assert_eq!(of().hash_one((5u64, 6u64, 7u64)), 13045242297722287173);
+    assert_eq!((of().hash_one(("Ada", 36u32)), of().hash_one(("Ada", 36u64 << 40))), (13422153889259647353, 2272154595059653516));
+    assert_eq!((of().hash_one((1815u64, "Ada Lovelace")), of().hash_one((5u8, 1u128 << 127))), (1735720109138093803, 13221633870271036051));
+    assert_eq!(of().hash_one("x".repeat(128)), 2230958468301649373);
+    let text: Vec<u8> = (0..200).map(|at| (at * 37 % 256) as u8).collect();
+    for (length, hash) in [
+        (0, 16045690984503098046),
+        (1, 16045690984503098046),
+        (7, 4668439202918017217),
+        (8, 1006952657870772363),
+        (9, 4622286899896622519),
+        (16, 13018532440386120669),
+        (63, 1759821577383905018),
+        (64, 15797489629508910292),
+        (100, 13219829240463754681),
+        (127, 4871536863150292029),
+        (128, 695559789670581238),
+        (129, 1833634219120750240),
+        (135, 11500040796088320301),
+        (136, 10432778923856156815),
+        (200, 6365603775763803409),
+    ] {
+        assert_eq!(map_hash(keys(), &text[..length]), hash);
+    }
 }
 
-/// A text of twenty bytes and each shorter one, cut at each place, has the hash of the bytes at once.
+/// Two hundred bytes and fewer, in writes of every width at every place, have the hash of the bytes at once.
 #[test]
-fn cuts_do_not_show() {
-    for length in 0..=20 {
-        let text = &b"a text, twenty bytes"[..length];
-        let mut whole = keys().build_hasher();
-        whole.write(text);
+fn splits_do_not_show() {
+    let text: Vec<u8> = (0..200).map(|at| (at * 91 % 251) as u8).collect();
+    for length in [0, 1, 8, 15, 16, 17, 40, 127, 128, 129, 140, 200] {
+        let bytes = &text[..length];
+        let whole = map_hash(keys(), bytes);
         for cut in 0..=length {
-            let mut hasher = keys().build_hasher();
-            hasher.write(&text[..cut]);
+            let mut hasher = of().build_hasher();
+            hasher.write(&bytes[..cut]);
             hasher.write(&[]);
             let copy = hasher;
-            text[cut..].iter().for_each(|byte| hasher.write_u8(*byte));
-            assert_eq!(hasher.finish(), whole.finish());
-            let mut first = keys().build_hasher();
-            first.write(&text[..cut]);
-            assert_eq!(copy.finish(), first.finish());
+            bytes[cut..].iter().for_each(|byte| hasher.write_u8(*byte));
+            assert_eq!((hasher.finish(), copy.finish()), (whole, map_hash(keys(), &bytes[..cut])));
+        }
+        for start in 0..length.min(16) {
+            let mut hasher = of().build_hasher();
+            hasher.write(&bytes[..start]);
+            let mut rest = &bytes[start..];
+            while let Some((number, more)) = rest.split_first_chunk() {
+                hasher.write_u64(u64::from_le_bytes(*number));
+                rest = more;
+                if let Some((number, more)) = rest.split_first_chunk() {
+                    hasher.write_u16(u16::from_le_bytes(*number));
+                    rest = more;
+                }
+                if let Some((number, more)) = rest.split_first_chunk() {
+                    hasher.write_u128(u128::from_le_bytes(*number));
+                    rest = more;
+                }
+                if let Some((number, more)) = rest.split_first_chunk() {
+                    hasher.write_u32(u32::from_le_bytes(*number));
+                    rest = more;
+                }
+            }
+            hasher.write(rest);
+            assert_eq!(hasher.finish(), whole);
         }
     }
 }
@@ -98,17 +150,22 @@ fn numbers_meet_at_known_keys() {
 /// Whoever sees hashes may compute the keys.
 #[test]
 fn debug_shows_neither_keys_nor_hashes() {
-    assert_eq!(format!("{:?}, {:?}", keys(), keys().build_hasher()), "NumberKeys { .. }, NumberHasher { .. }");
+    let told = format!("{:?}, {:?}, {:?}", keys(), of(), of().build_hasher());
+    assert_eq!(told, "MapKeys { .. }, MapHashers { .. }, MapHasher { .. }");
 }
 
 #[cfg(feature = "std")]
 #[test]
 fn maps_and_sets_at_keys() {
-    use hashers_proved::numbers::{NumberMap, NumberSet};
-    let mut ages: NumberMap<u32, &str> = NumberMap::default();
-    ages.insert(36, "Ada");
-    assert_eq!((ages.get(&36), ages.get(&37)), (Some(&"Ada"), None));
-    assert_ne!(NumberKeys::random().hash_one(7), NumberKeys::default().hash_one(7));
-    let collected: NumberSet<u64> = (0..1000).map(|number| number << 40).collect();
+    use hashers_proved::map_keys::{KeyMap, KeySet};
+    let mut ages: KeyMap<&str, u8> = KeyMap::default();
+    ages.insert("Ada", 36);
+    assert_eq!((ages.get("Ada"), ages.get("Alan")), (Some(&36), None));
+    assert_eq!(std::mem::size_of::<MapHashers>(), 8);
+    // all maps of the process have the same keys, and one with keys of its own has others
+    assert_eq!(MapHashers::default().hash_one(7), MapHashers::default().hash_one(7));
+    let own = MapKeys::random();
+    assert_ne!(own.hashers().hash_one(7), MapHashers::default().hash_one(7));
+    let collected: KeySet<u64> = (0..1000).map(|number| number << 40).collect();
     assert!((0..1000).all(|number| collected.contains(&(number << 40))) && collected.len() == 1000);
 }

@@ -4,7 +4,7 @@ use hashers_proved::blocks::{
 };
 use hashers_proved::jenkins::spooky_hash::{spooky128, spooky128_v1, SpookyHasher, SpookyV1Hasher};
 use hashers_proved::keyed::{Poly61Hasher, Poly61Pair};
-use hashers_proved::numbers::NumberHasher;
+use hashers_proved::map_keys::MapHasher;
 use hashers_proved::xxh3::{xxh3_64, BuildXxh3, Xxh3Hasher};
 use hashers_proved::{fnv::*, fx_hash::*, jenkins::*, more::*, null::*, oz::*, pigeon::*};
 use std::collections::{HashMap, HashSet};
@@ -51,7 +51,7 @@ const _: () = {
     // end of declared
     with_default::<Poly61Hasher>();
     with_default::<Poly61Pair>();
-    hasher::<NumberHasher>();
+    hasher::<MapHasher>();
     #[cfg(feature = "std")]
     hasher::<hashers_proved::lines::KeyedHasher>();
 };
@@ -96,8 +96,7 @@ fn maps_take_what_makes_hashers() {
     collected::<hashers_proved::build::BuildFresh<FNV1aHasher64>>();
     #[cfg(feature = "std")]
     {
-        collected::<hashers_proved::keyed::Poly61Keys>();
-        collected::<hashers_proved::numbers::NumberKeys>();
+        collected::<hashers_proved::map_keys::MapHashers>();
         collected::<hashers_proved::lines::RandomKeys>();
         collected::<SipKeys>();
         assert_ne!(SipKeys::random().hash_one(7), SipKeys::default().hash_one(7));

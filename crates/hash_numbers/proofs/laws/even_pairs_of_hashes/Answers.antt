@@ -1,5 +1,4 @@
-use Rattle.hash_numbers.proofs.Evenness.{even_pairs}
-use Rattle.hash_numbers.proofs.KeyLaws.{exactly_even}
+use Rattle.hash_numbers.proofs.KeyLaws.{even_pairs, exactly_even}
 use Rattle.hash_numbers.proofs.laws.even_pairs_of_hashes.Goals as goal
 
 pub returns-clause-most : goal.returns-clause-most

@@ -1,0 +1,6 @@
+pub mod Common
+pub mod Fours
+pub mod Shares
+pub mod Dots
+pub mod Pieces
+pub mod TwoKeys

@@ -1,0 +1,2 @@
+pub mod MapKeys
+pub mod KeyState
