@@ -32,7 +32,7 @@ PARTS = {
         },
         "hash_keyed": {"modular", "pair", "parts", "poly61", "words"},
         "hash_numbers": {"number"},
-        "hash_map_keys": {"hasher", "words"},
+        "hash_map_keys": {"hasher", "words", "xxh3_pieces"},
         "hash_names": {"reading", "table", "task"},
         "hash_kinds": {"reading", "table", "wide"},
         "streams": {"failure", "hex", "tries"},

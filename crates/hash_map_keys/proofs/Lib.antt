@@ -4,3 +4,4 @@ pub mod Shares
 pub mod Dots
 pub mod Pieces
 pub mod TwoKeys
+pub mod OnePiece

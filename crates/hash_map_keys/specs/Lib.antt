@@ -1,2 +1,3 @@
 pub mod MapKeys
 pub mod KeyState
+pub mod Pieces

@@ -2,15 +2,20 @@
 //! addend are numbers below 2^128, and the key for texts is a number below the prime 2^61 - 1; where they are drawn at
 //! random, the share of them is the chance. The bounds hold for keys of maps that were chosen without knowing these, nor
 //! anything that depends on them.
-ghost use Rattle.std.specs.Prelude.{◌≡◌, ◌≢◌, ℕ, ◌+◌, ◌-◌, ◌*◌, ◌/◌, ◌%◌, ◌^◌, ◌<◌, ◌≤◌, max, List, ◌++◌, drop, fold, length, All, AllPairs};
+ghost use Rattle.std.specs.Prelude.{◌≡◌, ◌≢◌, ℕ, ◌+◌, ◌-◌, ◌*◌, ◌/◌, ◌%◌, ◌^◌, ◌<◌, ◌≤◌, max, List, ◌++◌, drop, fold, length, All, AllPairs, [], ◌∷◌};
 ghost use Rattle.std.specs.Borrow.{Bor};
+ghost use Rattle.std.specs.Hash.{le_bytes};
 ghost use Rattle.std.specs.List.{concat};
 ghost use Rattle.hashers.specs.Text.{IsText};
 ghost use Rattle.hash_keyed.specs.Poly61.{AreKeys, prime61, word_count};
 ghost use Rattle.hash_numbers.specs.Numbers.{AreTables};
+ghost use Rattle.hash_xxh3.specs.Xxh3.{xxh3_64_of};
+ghost use Rattle.hash_map_keys.specs.Pieces.{byte_step, piece_step};
 ghost use Rattle.hash_map_keys.specs.KeyState.{after_write, answer_of, fresh_at};
 ghost use Rattle.hash_map_keys.specs.MapKeys.{AreMapKeys, NeitherBegins, key_words, map_hash};
 ghost use Rattle.hash_map_keys.specs.declared.keys.MapKeys.{MapKeys};
+
+use hash_theorems::xxh3::laws::keys_of_one_width_never_collide;
 
 /// The hash of a key of a map depends on its bytes alone, in whatever pieces they are written.
 pub fn pieces_do_not_show()
@@ -54,3 +59,18 @@ pub fn few_keys_for_two_keys_of_a_map()
         → length keys ≤ prime61 * 2 ^ (2304 - low - high)
         + (max (word_count (drop 128 s)) (word_count (drop 128 t)) + 1) * 2 ^ 2304 }
 {}
+
+/// Under [`Xxh3Pieces`](crate::xxh3_pieces::Xxh3Pieces) no two numbers of 64 bits share a hash, whatever the seed, and a byte's
+/// step loses nothing of the state and of the byte: so two strings of two bytes or more share a hash only if they share an XXH3.
+pub fn pieces_of_xxh3_keep_apart()
+    ensures numbers { (seed a b : ℕ) → a < 2 ^ 64 → b < 2 ^ 64
+        → piece_step seed (le_bytes 8 a) ≡ piece_step seed (le_bytes 8 b) → a ≡ b }
+    ensures states { (s t byte : ℕ) → s < 2 ^ 64 → t < 2 ^ 64 → byte < 256
+        → byte_step s byte ≡ byte_step t byte → s ≡ t }
+    ensures bytes { (state a b : ℕ) → state < 2 ^ 64 → a < 256 → b < 256
+        → byte_step state a ≡ byte_step state b → a ≡ b }
+    ensures strings { (seed : ℕ) (text : List ℕ) → 2 ≤ length text
+        → fold piece_step seed (text ∷ (255 ∷ []) ∷ []) ≡ byte_step (xxh3_64_of seed text) 255 }
+{
+    keys_of_one_width_never_collide();
+}

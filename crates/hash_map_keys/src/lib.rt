@@ -5,3 +5,4 @@ pub mod hasher;
 pub mod keys;
 pub mod laws;
 mod words;
+pub mod xxh3_pieces;

@@ -16,6 +16,7 @@ use crate::hash_laws::traits::Undo;
 use crate::hash_more::elf::ElfHasher;
 use crate::hash_blocks::murmur3::{Murmur3Hasher128, Murmur3Hasher32};
 use crate::hash_map_keys::hasher::MapHasher;
+use crate::hash_map_keys::xxh3_pieces::{BuildXxh3Pieces, Xxh3Pieces};
 use crate::hash_rounds::Turns;
 use crate::hash_laws::rules::{ByteHasher, ByteRule, UndoRule};
 use crate::hash_blocks::siphash::{SipHasher13, SipKey};
@@ -61,6 +62,7 @@ copies! {
     [] Poly61Hasher;
     [] Poly61Pair;
     ['a] MapHasher<'a>;
+    [] Xxh3Pieces;
 }
 
 /// `io::Write`, so that `io::copy` hashes a file, and a method `write`, which is `Hasher`'s where both traits are imported.
@@ -104,6 +106,7 @@ takes_bytes! {
     [] Poly61Hasher;
     [] Poly61Pair;
     ['a] MapHasher<'a>;
+    [] Xxh3Pieces;
 }
 #[cfg(feature = "std")]
 takes_bytes! {
@@ -221,17 +224,42 @@ builds! {
     BuildMurmur3At128, Murmur3Hasher128, u64;
 }
 
-impl BuildXxh3 {
-    /// This seed.
-    #[inline]
-    pub const fn with_seed(seed: u64) -> BuildXxh3 {
-        BuildXxh3 { seed }
-    }
+/// A seed, and 0 by `default()`, which everybody knows: so a map by `default()`, and one that is collected, has it.
+macro_rules! seeded {
+    ($($name:ident;)*) => {$(
+        impl $name {
+            /// This seed.
+            #[inline]
+            pub const fn with_seed(seed: u64) -> $name {
+                $name { seed }
+            }
 
-    /// A seed from the randomness of std's `RandomState`. Each call has another one.
-    #[cfg(feature = "std")]
-    pub fn random() -> BuildXxh3 {
-        BuildXxh3::with_seed(random_word())
+            /// A seed from the randomness of std's `RandomState`. Each call has another one.
+            #[cfg(feature = "std")]
+            pub fn random() -> $name {
+                $name::with_seed(random_word())
+            }
+        }
+
+        impl Default for $name {
+            #[inline]
+            fn default() -> $name {
+                $name { seed: 0 }
+            }
+        }
+    )*};
+}
+
+seeded! {
+    BuildXxh3;
+    BuildXxh3Pieces;
+}
+
+/// The seed 0.
+impl Default for Xxh3Pieces {
+    #[inline]
+    fn default() -> Xxh3Pieces {
+        Xxh3Pieces { state: 0 }
     }
 }
 
@@ -319,14 +347,6 @@ impl Default for BuildSpooky {
     #[inline]
     fn default() -> BuildSpooky {
         BuildSpooky { seed1: 0, seed2: 0 }
-    }
-}
-
-/// The seed 0, which everybody knows: so a map by `default()`, and one that is collected, has it.
-impl Default for BuildXxh3 {
-    #[inline]
-    fn default() -> BuildXxh3 {
-        BuildXxh3 { seed: 0 }
     }
 }
 
@@ -482,6 +502,8 @@ macro_rules! tells_no_key {
 tells_no_key! {
     [] BuildSpooky;
     [] BuildXxh3;
+    [] BuildXxh3Pieces;
+    [] Xxh3Pieces;
     [] BuildXxh32;
     [] BuildXxh64;
     [] BuildMurmur3At32;

@@ -113,6 +113,7 @@ pub mod hash_map_keys {
         pub use crate::extras::MapKeys;
     }
     mod words;
+    pub mod xxh3_pieces;
 }
 #[cfg(not(feature = "std"))]
 #[doc(hidden)]
@@ -398,6 +399,8 @@ pub mod crc32 {
 pub mod xxh3 {
     #[doc(inline)]
     pub use crate::extras::xxh3_u128;
+    #[doc(inline)]
+    pub use crate::hash_map_keys::xxh3_pieces::*;
     #[doc(inline)]
     pub use crate::hash_xxh3::*;
     #[doc(inline)]

@@ -2,6 +2,7 @@
 use crate::tests::same;
 use hash_map_keys::hasher::map_hash;
 use hash_map_keys::keys::MapKeys;
+use hash_map_keys::xxh3_pieces::BuildXxh3Pieces;
 use hash_numbers::number::{number_hash, pair_hash};
 use std::hash::{BuildHasher, Hasher};
 use std::io;
@@ -157,6 +158,52 @@ fn keys_of_maps_of_many_types(rt: HostRuntime) {
         &rt,
         &[of.hash_one((5u8, 1u128 << 127))],
         &[13221633870271036051],
+    );
+}
+
+/// XXH3 of numbers, each a piece, and of bytes.
+#[test]
+fn keys_of_maps_under_xxh3(rt: HostRuntime) {
+    let of = BuildXxh3Pieces { seed: 0 };
+    same(
+        &rt,
+        &[
+            of.hash_one::<u64>(255),
+            of.hash_one::<u32>(255),
+            of.hash_one::<u16>(255),
+            of.hash_one::<u8>(255),
+        ],
+        &[
+            936843873771430885,
+            6304544749795547560,
+            794437103675513319,
+            11043450624176589741,
+        ],
+    );
+    let seeded = BuildXxh3Pieces { seed: 5 }.hash_one::<u64>(255);
+    same(
+        &rt,
+        &[
+            of.hash_one::<u128>(1 << 127),
+            of.hash_one::<(u64, u64)>((5, 6)),
+            seeded,
+        ],
+        &[
+            3256113168528211055,
+            16745307315096222372,
+            1064666609712484258,
+        ],
+    );
+    let mut hasher = of.build_hasher();
+    hasher.write(b"Ada");
+    hasher.write_u8(255);
+    let mut byte = of.build_hasher();
+    byte.write(b"a");
+    byte.write(&[255]);
+    same(
+        &rt,
+        &[hasher.finish(), byte.finish()],
+        &[17444230683748858523, 18429831914763545798],
     );
 }
 

@@ -215,11 +215,12 @@ fn lookup_and_insert<'a, K: Hash + Eq + Copy, S: BuildHasher + Clone + 'a>(keys:
 /// A row of keys of std's map, under random keys but for fx: of each hash a lookup and an insert. Each placement makes
 /// the maps in another order, since large ones are a fifth faster or slower by the pages of memory that they get.
 fn numbers_of<'a, K: Hash + Eq + Copy>(name: &str, keys: &'a [K]) {
-    let sides: [&dyn Fn() -> [Work<'a>; 2]; 4] = [
+    let sides: [&dyn Fn() -> [Work<'a>; 2]; 5] = [
         &|| lookup_and_insert(keys, ours::map_keys::MapHashers::default()),
         &|| lookup_and_insert(keys, BuildHasherDefault::<fxhash::FxHasher64>::default()),
         &|| lookup_and_insert(keys, ahash::RandomState::new()),
         &|| lookup_and_insert(keys, RandomState::new()),
+        &|| lookup_and_insert(keys, ours::xxh3::BuildXxh3Pieces::random()),
     ];
     let first = env!("MEASURE_RUST_BEHIND").parse::<usize>().unwrap() / 16 % sides.len();
     let order: Vec<usize> = (0..sides.len()).map(|at| (first + at) % sides.len()).collect();

@@ -5,7 +5,7 @@ use hashers_proved::blocks::{
 use hashers_proved::jenkins::spooky_hash::{spooky128, spooky128_v1, SpookyHasher, SpookyV1Hasher};
 use hashers_proved::keyed::{Poly61Hasher, Poly61Pair};
 use hashers_proved::map_keys::MapHasher;
-use hashers_proved::xxh3::{xxh3_64, BuildXxh3, Xxh3Hasher};
+use hashers_proved::xxh3::{xxh3_64, BuildXxh3, BuildXxh3Pieces, Xxh3Hasher, Xxh3Pieces};
 use hashers_proved::{fnv::*, fx_hash::*, jenkins::*, more::*, null::*, oz::*, pigeon::*};
 use std::collections::{HashMap, HashSet};
 use std::fmt::Debug;
@@ -49,6 +49,7 @@ const _: () = {
     with_default::<SipHasher24>();
     with_default::<Xxh3Hasher>();
     // end of declared
+    with_default::<Xxh3Pieces>();
     with_default::<Poly61Hasher>();
     with_default::<Poly61Pair>();
     hasher::<MapHasher>();
@@ -91,6 +92,7 @@ fn collected<B: BuildHasher + Clone + Copy + Debug + Default>() {
 #[test]
 fn maps_take_what_makes_hashers() {
     collected::<BuildXxh3>();
+    collected::<BuildXxh3Pieces>();
     collected::<hashers_proved::xxhash::BuildXxh64>();
     collected::<BuildSpooky>();
     collected::<hashers_proved::build::BuildFresh<FNV1aHasher64>>();
@@ -104,6 +106,10 @@ fn maps_take_what_makes_hashers() {
     assert_eq!(SipKeys::with_keys(5, 6).hash_one(7u8), siphash13(SipKey { k0: 5, k1: 6 }, &[7]));
     assert_eq!(BuildXxh3::default().hash_one(7u8), xxh3_64(0, &[7]));
     assert_eq!(BuildSpooky::default().hash_one(7u8), spooky128(0, 0, &[7]).0);
+    let of = BuildXxh3Pieces::default();
+    assert_eq!((of.hash_one(255u64), BuildXxh3Pieces::with_seed(5).hash_one(255u64)), (936843873771430885, 1064666609712484258));
+    assert_eq!((of.hash_one("Ada"), of.hash_one("a"), of.hash_one("")), (17444230683748858523, 18429831914763545798, 16516963733557364010));
+    assert_eq!((of.hash_one(("Ada", 36u32)), of.hash_one(1u128 << 127)), (4658158038323642487, 3256113168528211055));
 }
 
 fn in_a_map<H: Hasher + Default>() {
