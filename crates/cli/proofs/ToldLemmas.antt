@@ -11,7 +11,7 @@ use Rattle.std.proofs.lemmas.Grind.{flat_map-append}
 use Rattle.std.proofs.lemmas.List.Folds.{list_all-append}
 
 -- one more of the names
-pub names_more : {Y : Type 0} (now : Y → List ℕ) (xs : List Y) (i : ℕ) (d : Y) → i < length xs
+pub names_more : {Y Z : Type 0} (now : Y → Z) (xs : List Y) (i : ℕ) (d : Y) → i < length xs
     → take (i + 1) (map now xs) ≡ take i (map now xs) ++ now (get_or xs i d) ∷ []
 names_more now xs i d below =
     grind (arith, take_more (map now xs) i (now (get_or xs i d)), get_or-map now xs i d (now (get_or xs i d)) below, length-map xs now)

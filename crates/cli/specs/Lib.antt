@@ -2,6 +2,7 @@ pub mod Call
 pub mod Files
 pub mod Frame
 pub mod Help
+pub mod Inputs
 pub mod Keys
 pub mod Told
 pub mod Numbers

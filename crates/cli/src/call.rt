@@ -78,7 +78,7 @@ pub enum Misgiven {
 #[derive(Clone, Copy)]
 pub enum Said<'a> {
     /// An option, by its name, and its value, which is empty where it takes none.
-    Gives(&'static [u8], &'a [u8]),
+    Gives(&'a [u8], &'a [u8]),
     /// An operand.
     Operand(&'a [u8]),
     /// What is wrong with an option, and the word, its part or the letter that is.

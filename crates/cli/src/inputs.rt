@@ -1,12 +1,12 @@
-//! The inputs of a call, in their order: files by their names, and standard input; and what is said of one that fails.
-ghost use Rattle.std.specs.Io.{ReadsAtMost};
+//! The inputs of a call, in their order, each opened by its first read; and who is told of one that fails.
+ghost use Rattle.std.specs.Prelude.{◌≡◌, map, IfOk};
+ghost use Rattle.cli.specs.Inputs.{left_in};
 
-use crate::quoted::quoted;
-use crate::reason::reason;
-use std::alloc::AllocError;
-use std::fs::File;
-use std::io;
-use std::io::{Error, ErrorKind, Read, Stdin};
+use crate::folder::Folder;
+use std::alloc::{AllocError, Global};
+use std::io::{Error, Read};
+use std::marker::PhantomData;
+use std::{io, mem};
 
 /// Who is told of each input that fails.
 pub trait Complaints {
@@ -14,154 +14,96 @@ pub trait Complaints {
     fn failed(&mut self, place: usize, error: &Error);
 }
 
-/// What is read of a name: a file, or standard input.
-#[derive(Drop)]
-pub enum Opened {
-    /// Standard input.
-    Standard(Stdin),
-    /// A file.
-    File(File),
-}
-
-impl Opened {
-    /// How many bytes a file has, as far as the system says so; a pipe has no size.
-    pub fn size(&self) -> Option<u64> {
-        match self {
-            Opened::Standard(_) => None,
-            Opened::File(file) => match file.metadata() {
-                Ok(data) if data.is_file() => Some(data.len()),
-                _ => None,
-            },
-        }
-    }
-}
-
-impl Read for Opened {
-    fn read(&mut self, buf: &mut [u8]) -> io::Result<usize> {
-        match self {
-            Opened::Standard(stdin) => stdin.read(buf),
-            Opened::File(file) => file.read(buf),
-        }
-    }
-}
-
-/// Opens the file of that name; `-` is standard input.
-pub fn open(rt: &HostRuntime, name: &[u8]) -> io::Result<Opened> {
-    if name == STANDARD {
-        return Ok(Opened::Standard(rt.stdin()));
-    }
-    match str::from_utf8(name) {
-        Ok(path) => Ok(Opened::File(File::open(rt, path)?)),
-        Err(_) => Err(Error::new(ErrorKind::InvalidInput, NO_TEXT)),
-    }
-}
-
 /// What is read of an input.
 #[derive(Drop)]
-enum Source {
+pub(crate) enum Source<R: Read + Drop> {
     /// It is not opened yet.
     Unopened,
     /// It is open.
-    Open(Opened),
-    /// It has ended, or failed.
-    Closed,
+    Open(R),
+    /// It has ended.
+    Ended,
 }
 
-/// The file of a name, or standard input. It is opened by its first read, and closed at its end.
+/// The file of a name. It is opened by its first read, and closed at its end.
 #[derive(Drop)]
-pub struct Input<'a> {
-    rt: &'a HostRuntime,
+pub struct Input<'a, R: Read + Drop, F: Folder<R>> {
+    folder: &'a F,
     name: &'a [u8],
-    source: Source,
+    source: Source<R>,
 }
 
-/// Standard input's name.
-pub(crate) const STANDARD: &[u8] = b"-";
+impl<R: Read + Drop, F: Folder<R>> Read for Input<'_, R, F> {
+    ghost remaining = { left_in F.holds R.remaining };
 
-/// Why a name cannot be opened that is no text.
-const NO_TEXT: &str = "file name is not valid UTF-8; use < to read it";
-
-/// The inputs of these names, standard input where there is none. `-` is standard input too.
-pub fn inputs<'a>(rt: &'a HostRuntime, names: &[&'a [u8]]) -> Result<Vec<Input<'a>>, AllocError> {
-    let mut inputs = Vec::new(rt.alloc());
-    for name in names {
-        push(&mut inputs, Input::new(rt, name))?;
-    }
-    if names.is_empty() {
-        push(&mut inputs, Input::new(rt, STANDARD))?;
-    }
-    Ok(inputs)
-}
-
-/// Puts an input behind the others.
-fn push<'a>(inputs: &mut Vec<Input<'a>>, input: Input<'a>) -> Result<(), AllocError> {
-    match inputs.push(input) {
-        Ok(()) => Ok(()),
-        Err(_) => Err(AllocError),
-    }
-}
-
-impl<'a> Input<'a> {
-    fn new(rt: &'a HostRuntime, name: &'a [u8]) -> Input<'a> {
-        Input {
-            rt,
-            name,
-            source: Source::Unopened,
-        }
-    }
-
-    /// Reads once from what is open.
-    fn read_open(&mut self, buf: &mut [u8]) -> io::Result<usize>
-        ensures { ReadsAtMost result buf.new }
-    {
-        match &mut self.source {
-            Source::Open(opened) => opened.read(buf),
-            _ => Ok(0),
-        }
-    }
-}
-
-impl Read for Input<'_> {
     fn read(&mut self, buf: &mut [u8]) -> io::Result<usize> {
-        if let Source::Unopened = self.source {
-            self.source = Source::Closed;
-            self.source = Source::Open(open(self.rt, self.name)?);
-        }
-        let read = self.read_open(buf);
-        if let Ok(0) = read {
-            self.source = Source::Closed;
+        let mut file = match mem::replace(&mut self.source, Source::Ended) {
+            Source::Ended => return Ok(0),
+            Source::Open(file) => file,
+            Source::Unopened => match self.folder.open(self.name) {
+                Ok(file) => file,
+                Err(error) => {
+                    self.source = Source::Unopened;
+                    return Err(error);
+                }
+            },
+        };
+        let read = file.read(buf);
+        let has_ended = matches!(&read, Ok(0)) && !buf.is_empty();
+        if !has_ended {
+            self.source = Source::Open(file);
         }
         read
     }
 }
 
-/// Says on standard error which input failed, and why, behind the program's name.
-#[derive(Drop)]
-pub struct Told<'a> {
-    /// The runtime.
-    pub rt: &'a HostRuntime,
-    /// The program's name.
-    pub program: &'static str,
-    /// The names of the inputs.
-    pub names: &'a [&'a [u8]],
+/// The inputs of these names.
+pub fn inputs<'a, R: Read + Drop, F: Folder<R>>(
+    alloc: Global,
+    folder: &'a F,
+    names: &[&'a [u8]],
+) -> Result<Vec<Input<'a, R, F>>, AllocError>
+    ensures { IfOk result (λ inputs. map (left_in F.holds R.remaining) inputs.items
+        ≡ map (λ name. F.holds folder.now name.now) names.now) }
+{
+    let mut inputs = Vec::new(alloc);
+    for name in names {
+        let input = Input {
+            folder,
+            name,
+            source: Source::Unopened,
+        };
+        match inputs.push(input) {
+            Ok(()) => {}
+            Err(_) => return Err(AllocError),
+        }
+    }
+    Ok(inputs)
 }
 
-impl Complaints for Told<'_> {
-    fn failed(&mut self, place: usize, error: &Error) {
-        let name = match self.names.get(place) {
-            Some(name) => *name,
-            None => STANDARD,
-        };
-        tell_failure(self.rt, self.program, name, error);
+/// Tells a folder of each input that fails, by its name.
+#[derive(Drop)]
+pub struct Told<'a, R: Read, F: Folder<R>> {
+    folder: &'a F,
+    names: &'a [&'a [u8]],
+    files: PhantomData<R>,
+}
+
+impl<'a, R: Read, F: Folder<R>> Told<'a, R, F> {
+    /// Of inputs of these names.
+    pub fn new(folder: &'a F, names: &'a [&'a [u8]]) -> Self {
+        Told {
+            folder,
+            names,
+            files: PhantomData,
+        }
     }
 }
 
-/// Says on standard error that the file of that name failed, and why, behind the program's name.
-pub fn tell_failure(rt: &HostRuntime, program: &str, name: &[u8], error: &Error) {
-    let alloc = rt.alloc();
-    let (Ok(name), Ok(why)) = (quoted(alloc, name), reason(alloc, error)) else {
-        let _ = eprintln!(rt; "{program}: out of memory");
-        return;
-    };
-    let _ = eprintln!(rt; "{program}: {name}: {why}");
+impl<R: Read, F: Folder<R>> Complaints for Told<'_, R, F> {
+    fn failed(&mut self, place: usize, error: &Error) {
+        if let Some(name) = self.names.get(place) {
+            self.folder.failed(name, error);
+        }
+    }
 }

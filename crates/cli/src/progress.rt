@@ -1,7 +1,10 @@
 //! Progress on standard error, where that is a terminal and something takes longer than a second.
-use crate::inputs::Opened;
+ghost use Rattle.std.specs.Prelude.{◌≡◌};
+
+use crate::folder::Folder;
+use crate::opened::Measured;
 use std::io;
-use std::io::{IsTerminal, Read, Stdout, Write};
+use std::io::{Error, IsTerminal, Read, Stdout, Write};
 use std::time::Instant;
 use streams::tries::{TRIES, read_some};
 
@@ -93,30 +96,21 @@ impl Write for Cleared<'_> {
     }
 }
 
-/// An input that is read with progress. A read that is interrupted is tried again.
+/// A file that is read with progress. A read that is interrupted is tried again.
 #[derive(Drop)]
-pub struct Watched<'r> {
-    input: Opened,
+pub struct Watched<'r, R: Measured + Drop> {
+    file: R,
     bytes: u64,
     progress: Progress<'r>,
 }
 
-impl<'r> Watched<'r> {
-    /// The input, of which nothing was read yet.
-    pub fn new(input: Opened, progress: Progress<'r>) -> Watched<'r> {
-        Watched {
-            input,
-            bytes: 0,
-            progress,
-        }
-    }
-
+impl<R: Measured + Drop> Watched<'_, R> {
     /// Shows how much was read after so many milliseconds, and how long the rest will take.
     fn show(&self, passed: u64) {
         let mega = self.bytes / 1000000;
         let speed = self.bytes / 1000 / passed.max(1);
         let rt = self.progress.rt;
-        let _ = match self.input.size() {
+        let _ = match self.file.size() {
             Some(size) if size > self.bytes => {
                 let left = (size - self.bytes) / 1000 / speed.max(1) / 1000;
                 eprint!(rt; "\r{mega} MB, {speed} MB/s, {left} s left  ")
@@ -126,9 +120,11 @@ impl<'r> Watched<'r> {
     }
 }
 
-impl Read for Watched<'_> {
+impl<R: Measured + Drop> Read for Watched<'_, R> {
+    ghost remaining = { λ watched. R.remaining watched.file };
+
     fn read(&mut self, buf: &mut [u8]) -> io::Result<usize> {
-        match read_some(&mut self.input, buf, TRIES) {
+        match read_some(&mut self.file, buf, TRIES) {
             Ok(count) if count > 0 => {
                 self.bytes = self.bytes.saturating_add(count as u64);
                 if let Some(passed) = self.progress.due() {
@@ -141,5 +137,44 @@ impl Read for Watched<'_> {
                 ended
             }
         }
+    }
+}
+
+/// The files of a folder, read with progress where standard error is a terminal.
+#[derive(Drop)]
+pub struct Shown<'r, F: Drop> {
+    rt: &'r HostRuntime,
+    folder: F,
+    shows: bool,
+}
+
+impl<'r, F: Drop> Shown<'r, F> {
+    /// Progress is shown unless it is to be quiet.
+    pub fn new(rt: &'r HostRuntime, folder: F, quiet: bool) -> Shown<'r, F>
+        ensures { result.folder ≡ folder }
+    {
+        Shown {
+            rt,
+            folder,
+            shows: !quiet && rt.stderr().is_terminal(),
+        }
+    }
+}
+
+impl<'r, R: Measured + Drop, F: Folder<R> + Drop> Folder<Watched<'r, R>> for Shown<'r, F> {
+    ghost opens = { λ shown. F.opens shown.folder };
+
+    ghost holds = { λ shown. F.holds shown.folder };
+
+    fn open(&self, name: &[u8]) -> io::Result<Watched<'r, R>> {
+        Ok(Watched {
+            file: self.folder.open(name)?,
+            bytes: 0,
+            progress: Progress::new(self.rt, self.shows),
+        })
+    }
+
+    fn failed(&self, name: &[u8], error: &Error) {
+        self.folder.failed(name, error);
     }
 }

@@ -7,7 +7,7 @@ use cli::folder::Disk;
 use cli::frame::{About, wrong_word};
 use cli::help::help_for;
 use cli::program::{BUFFER, Program, run};
-use cli::progress::Cleared;
+use cli::progress::{Cleared, Shown};
 use cuts_core::failure::TooMany;
 use cuts_core::listing::Lines;
 use cuts_core::outcome::{Misuse, Outcome, Wrong, call_of, options, outcome_of, wrong_size};
@@ -78,7 +78,7 @@ impl Program for Cuts {
         let w = BufWriter::with_capacity(alloc, BUFFER, Cleared::new(rt, rt.stdout(), !quiet))?;
         Ok(outcome_of(
             alloc,
-            &Disk::new(rt, NAME, quiet),
+            &Shown::new(rt, Disk::new(rt, NAME), quiet),
             call,
             about,
             &mut Lines::new(alloc, w),

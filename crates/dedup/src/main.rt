@@ -3,6 +3,7 @@
 #![tactic(auto)]
 
 use cli::call::Call;
+use cli::folder::{Disk, files};
 use cli::frame::{About, wrong_word};
 use cli::help::help_for;
 use cli::inputs::{Told, inputs};
@@ -65,7 +66,8 @@ impl Program for Dedup {
 
     fn outcome_of<'a>(rt: &'a HostRuntime, call: &Call<'a>) -> io::Result<Outcome> {
         let alloc = rt.alloc();
-        let names = call.operands(alloc)?;
+        let folder = Disk::new(rt, NAME);
+        let names = files(alloc, call)?;
         let help = help_for(alloc, call, FRONT, &options(), BEHIND)?;
         let about = About {
             help: help.as_str(),
@@ -77,12 +79,8 @@ impl Program for Dedup {
             RandomKeys::new(rt)?,
             call,
             about,
-            &mut inputs(rt, &names)?,
-            &mut Told {
-                rt,
-                program: NAME,
-                names: &names,
-            },
+            &mut inputs(alloc, &folder, &names)?,
+            &mut Told::new(&folder, &names),
             &mut BufWriter::with_capacity(alloc, BUFFER, rt.stdout())?,
         ))
     }

@@ -1,34 +1,32 @@
-//! The files of the disk, and what a check of them finds.
+//! What a check of files finds, on standard error.
+ghost use Rattle.std.specs.Prelude.{◌≡◌};
+
 use crate::check::Counts;
 use crate::hints::Hint;
 use crate::reports::Reports;
-use cli::folder::{Disk, Folder};
-use cli::progress::Watched;
+use cli::folder::Folder;
 use cli::quoted::quoted;
 use std::io;
-use std::io::Error;
+use std::io::{Error, Read};
 
-/// The files of the disk, and what a check of them finds, which is told on standard error.
+/// The files of a folder, and what a check of them finds, which is told on standard error.
 #[derive(Drop)]
-pub struct Checked<'r> {
+pub struct Checked<'r, F: Drop> {
     rt: &'r HostRuntime,
-    program: &'static str,
-    disk: Disk<'r>,
+    program: &'r str,
+    folder: F,
     status: bool,
 }
 
-impl<'r> Checked<'r> {
-    /// For the program of that name. With progress, unless it is to be quiet; without warnings, where the status alone tells.
-    pub fn new(
-        rt: &'r HostRuntime,
-        program: &'static str,
-        quiet: bool,
-        status: bool,
-    ) -> Checked<'r> {
+impl<'r, F: Drop> Checked<'r, F> {
+    /// For the program of that name. Without warnings, where the status alone tells.
+    pub fn new(rt: &'r HostRuntime, program: &'r str, folder: F, status: bool) -> Checked<'r, F>
+        ensures { result.folder ≡ folder }
+    {
         Checked {
             rt,
             program,
-            disk: Disk::new(rt, program, quiet || status),
+            folder,
             status,
         }
     }
@@ -44,19 +42,21 @@ impl<'r> Checked<'r> {
     }
 }
 
-impl<'r> Folder<Watched<'r>> for Checked<'r> {
-    ghost opens = { λ checked name opened. Unit {0} };
+impl<R: Read, F: Folder<R> + Drop> Folder<R> for Checked<'_, F> {
+    ghost opens = { λ checked. F.opens checked.folder };
 
-    fn open(&self, name: &[u8]) -> io::Result<Watched<'r>> {
-        self.disk.open(name)
+    ghost holds = { λ checked. F.holds checked.folder };
+
+    fn open(&self, name: &[u8]) -> io::Result<R> {
+        self.folder.open(name)
     }
 
     fn failed(&self, name: &[u8], error: &Error) {
-        self.disk.failed(name, error);
+        self.folder.failed(name, error);
     }
 }
 
-impl Reports for Checked<'_> {
+impl<F: Drop> Reports for Checked<'_, F> {
     fn improper(&self, list: &[u8], line: u64) {
         let program = self.program;
         if let Ok(list) = quoted(self.rt.alloc(), list) {

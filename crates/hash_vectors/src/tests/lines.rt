@@ -1,7 +1,8 @@
 //! What the program `dedup` writes, over readers and writers that cut, fail, and refuse.
 use crate::tests::all_hold;
+use crate::tests::shelf::Shelf;
 use cli::frame::About;
-use cli::inputs::Complaints;
+use cli::inputs::{Complaints, Input, inputs};
 use cli::outcome::{failure_of, status_of};
 use dedup_core::outcome::{Outcome, call_of, outcome_of};
 use hashers::build::BuildFresh;
@@ -9,9 +10,9 @@ use hashers::null::NullHasher;
 use std::alloc::Global;
 use std::hash::BuildHasher;
 use std::io;
-use std::io::{BufWriter, ErrorKind};
+use std::io::{BufWriter, ErrorKind, Read};
 use std::process::Abort;
-use streams::rehearsal::{Paper, Script, Trouble, arguments_of};
+use streams::rehearsal::{File, Paper, Script, Trouble, arguments_of, whole};
 use text_set::RandomKeys;
 
 /// That the bytes are as wanted.
@@ -93,10 +94,10 @@ fn status(outcome: &Outcome) -> End {
 const HELD: usize = 8;
 
 /// Runs the program over inputs, onto this paper.
-fn run_all<H: Fresh>(
+fn run_all<H: Fresh, R: Read>(
     alloc: Global,
     words: &[&str],
-    inputs: &mut [Script<'_>],
+    inputs: &mut [R],
     failures: &mut Failures,
     w: &mut Paper,
 ) -> End {
@@ -126,7 +127,7 @@ fn run_all<H: Fresh>(
 
 /// Runs the program over a text, onto this paper.
 fn run<H: Fresh>(alloc: Global, words: &[&str], r: Script<'_>, w: &mut Paper) -> End {
-    run_all::<H>(alloc, words, &mut [r], &mut Failures::new(), w)
+    run_all::<H, Script<'_>>(alloc, words, &mut [r], &mut Failures::new(), w)
 }
 
 /// That the program ends so, and wrote this.
@@ -246,13 +247,17 @@ fn a_read_fails_at_each_byte(rt: HostRuntime) {
     }
 }
 
-/// Inputs of which the second fails within a line, and the third ends without an end of its line.
-fn three_inputs() -> [Script<'static>; 4] {
+/// Files of which the second fails within a line, and the third ends without an end of its line.
+fn four_files() -> [File<'static>; 4] {
     [
-        Script::new(b"b\na", 64),
-        Script::failing(b"a\nc\nlost\n", 64, 6),
-        Script::new(b"a\nlo", 2),
-        Script::new(b"st\nlo", 64),
+        whole(b"1", b"b\na"),
+        File {
+            name: b"2",
+            text: b"a\nc\nlost\n",
+            until_fault: 6,
+        },
+        whole(b"3", b"a\nlo"),
+        whole(b"4", b"st\nlo"),
     ]
 }
 
@@ -262,13 +267,16 @@ fn inputs_one_behind_the_other(rt: HostRuntime) {
         (&[], b"b\na\nc\nlo\nst\n"),
         (&["-cd"], b"      3 a\n      2 lo\n"),
     ];
+    let files = four_files();
+    let names: [&[u8]; 4] = [b"1", b"2", b"3", b"4"];
     for (words, output) in &calls {
+        let shelf = Shelf { files: &files };
         let mut paper = Paper::sound(64);
         let mut failures = Failures::new();
-        let end = run_all::<RandomKeys>(
+        let end = run_all::<RandomKeys, Input<'_, Script<'_>, Shelf<'_>>>(
             rt.alloc(),
             words,
-            &mut three_inputs(),
+            &mut inputs(rt.alloc(), &shelf, &names).expect(&rt, "memory"),
             &mut failures,
             &mut paper,
         );

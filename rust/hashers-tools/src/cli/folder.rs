@@ -4,11 +4,11 @@
 use hashers_proved::shim::{HostRuntime, Vec, std};
 
 use crate::cli::call::Call;
-use crate::cli::inputs::{STANDARD, open, tell_failure};
-use crate::cli::progress::{Progress, Watched};
+use crate::cli::opened::{Opened, STANDARD, open, tell_failure};
 use std::alloc::{AllocError, Global};
+use std::fs::File;
 use std::io;
-use std::io::{Error, IsTerminal, Read};
+use std::io::{Error, Read, Stdin};
 
 /// The files of a call: its operands, or standard input.
 ///
@@ -34,7 +34,9 @@ pub trait Folder<R: Read> {
     /// Proved:
     ///
     /// ```text
-    /// opens self.now name.now (opened R.remaining result)
+    /// opens: opens self.now name.now (opened R.remaining result)
+    /// holds: IfOk result (λ file. IfSome (holds self.now name.now)
+    ///     (λ bytes. R.remaining file ≡ Some bytes))
     /// ```
     fn open(&self, name: &[u8]) -> io::Result<R>;
 
@@ -42,30 +44,24 @@ pub trait Folder<R: Read> {
     fn failed(&self, name: &[u8], error: &Error);
 }
 
-/// The files of the disk; `-` is standard input. What fails is told on standard error, and progress where that is a terminal.
+/// The files of the disk; `-` is standard input. What fails is told on standard error. That a name leads to its file is in no contract.
 pub struct Disk<'r> {
     rt: &'r HostRuntime,
-    program: &'static str,
-    shows: bool,
+    program: &'r str,
 }
 
 impl<'r> Disk<'r> {
-    /// For the program of that name. Progress is shown unless it is to be quiet.
+    /// For the program of that name.
     #[inline]
-    pub fn new(rt: &'r HostRuntime, program: &'static str, quiet: bool) -> Disk<'r> {
-        Disk {
-            rt,
-            program,
-            shows: !quiet && rt.stderr().is_terminal(),
-        }
+    pub fn new(rt: &'r HostRuntime, program: &'r str) -> Disk<'r> {
+        Disk { rt, program }
     }
 }
 
-impl<'r> Folder<Watched<'r>> for Disk<'r> {
+impl Folder<Opened<Stdin, File>> for Disk<'_> {
     #[inline]
-    fn open(&self, name: &[u8]) -> io::Result<Watched<'r>> {
-        let file = open(self.rt, name)?;
-        Ok(Watched::new(file, Progress::new(self.rt, self.shows)))
+    fn open(&self, name: &[u8]) -> io::Result<Opened<Stdin, File>> {
+        open(self.rt, name)
     }
 
     #[inline]

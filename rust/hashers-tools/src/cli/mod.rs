@@ -11,6 +11,7 @@ pub mod help;
 pub mod inputs;
 pub mod keys;
 pub mod numbers;
+pub mod opened;
 pub mod outcome;
 pub mod program;
 pub mod progress;

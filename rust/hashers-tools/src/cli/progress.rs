@@ -4,9 +4,10 @@
 use hashers_proved::streams;
 use hashers_proved::shim::{HostRuntime, eprint, std};
 
-use crate::cli::inputs::Opened;
+use crate::cli::folder::Folder;
+use crate::cli::opened::Measured;
 use std::io;
-use std::io::{IsTerminal, Read, Stdout, Write};
+use std::io::{Error, IsTerminal, Read, Stdout, Write};
 use std::time::Instant;
 use streams::tries::{TRIES, read_some};
 
@@ -103,31 +104,21 @@ impl Write for Cleared<'_> {
     }
 }
 
-/// An input that is read with progress. A read that is interrupted is tried again.
-pub struct Watched<'r> {
-    input: Opened,
+/// A file that is read with progress. A read that is interrupted is tried again.
+pub struct Watched<'r, R: Measured> {
+    file: R,
     bytes: u64,
     progress: Progress<'r>,
 }
 
-impl<'r> Watched<'r> {
-    /// The input, of which nothing was read yet.
-    #[inline]
-    pub fn new(input: Opened, progress: Progress<'r>) -> Watched<'r> {
-        Watched {
-            input,
-            bytes: 0,
-            progress,
-        }
-    }
-
+impl<R: Measured> Watched<'_, R> {
     /// Shows how much was read after so many milliseconds, and how long the rest will take.
     #[inline]
     fn show(&self, passed: u64) {
         let mega = self.bytes / 1000000;
         let speed = self.bytes / 1000 / passed.max(1);
         let rt = self.progress.rt;
-        let _ = match self.input.size() {
+        let _ = match self.file.size() {
             Some(size) if size > self.bytes => {
                 let left = (size - self.bytes) / 1000 / speed.max(1) / 1000;
                 eprint!(rt; "\r{mega} MB, {speed} MB/s, {left} s left  ")
@@ -137,10 +128,10 @@ impl<'r> Watched<'r> {
     }
 }
 
-impl Read for Watched<'_> {
+impl<R: Measured> Read for Watched<'_, R> {
     #[inline]
     fn read(&mut self, buf: &mut [u8]) -> io::Result<usize> {
-        match read_some(&mut self.input, buf, TRIES) {
+        match read_some(&mut self.file, buf, TRIES) {
             Ok(count) if count > 0 => {
                 self.bytes = self.bytes.saturating_add(count as u64);
                 if let Some(passed) = self.progress.due() {
@@ -153,5 +144,46 @@ impl Read for Watched<'_> {
                 ended
             }
         }
+    }
+}
+
+/// The files of a folder, read with progress where standard error is a terminal.
+pub struct Shown<'r, F> {
+    rt: &'r HostRuntime,
+    folder: F,
+    shows: bool,
+}
+
+impl<'r, F> Shown<'r, F> {
+    /// Progress is shown unless it is to be quiet.
+    ///
+    /// Proved:
+    ///
+    /// ```text
+    /// result.folder ≡ folder
+    /// ```
+    #[inline]
+    pub fn new(rt: &'r HostRuntime, folder: F, quiet: bool) -> Shown<'r, F> {
+        Shown {
+            rt,
+            folder,
+            shows: !quiet && rt.stderr().is_terminal(),
+        }
+    }
+}
+
+impl<'r, R: Measured, F: Folder<R>> Folder<Watched<'r, R>> for Shown<'r, F> {
+    #[inline]
+    fn open(&self, name: &[u8]) -> io::Result<Watched<'r, R>> {
+        Ok(Watched {
+            file: self.folder.open(name)?,
+            bytes: 0,
+            progress: Progress::new(self.rt, self.shows),
+        })
+    }
+
+    #[inline]
+    fn failed(&self, name: &[u8], error: &Error) {
+        self.folder.failed(name, error);
     }
 }

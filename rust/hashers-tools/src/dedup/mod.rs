@@ -7,6 +7,7 @@ use hashers_proved::{streams, text_set};
 use hashers_proved::shim::{HostRuntime, Vec, std};
 
 use cli::call::Call;
+use cli::folder::{Disk, files};
 use cli::frame::{About, wrong_word};
 use cli::help::help_for;
 use cli::inputs::{Told, inputs};
@@ -63,7 +64,8 @@ impl Program for Dedup {
     #[inline]
     fn outcome_of<'a>(rt: &'a HostRuntime, call: &Call<'a>) -> io::Result<Outcome> {
         let alloc = rt.alloc();
-        let names = call.operands(alloc)?;
+        let folder = Disk::new(rt, NAME);
+        let names = files(alloc, call)?;
         let help = help_for(alloc, call, FRONT, &options(), BEHIND)?;
         let about = About {
             help: help.as_str(),
@@ -75,12 +77,8 @@ impl Program for Dedup {
             RandomKeys::new(rt)?,
             call,
             about,
-            &mut inputs(rt, &names)?,
-            &mut Told {
-                rt,
-                program: NAME,
-                names: &names,
-            },
+            &mut inputs(alloc, &folder, &names)?,
+            &mut Told::new(&folder, &names),
             &mut BufWriter::with_capacity(alloc, BUFFER, rt.stdout())?,
         ))
     }

@@ -6,17 +6,20 @@ use hashers_proved::{hash_lines, streams};
 use hashers_proved::shim::{HostRuntime, String, Vec, format, std};
 
 use cli::call::Call;
+use cli::folder::Disk;
 use cli::frame::{About, wrong_word};
 use cli::help::help_for;
+use cli::opened::Opened;
 use cli::program::{BUFFER, Program, run};
-use cli::progress::Watched;
+use cli::progress::Shown;
 use hash_lines::sums::{SUMS, Sum};
 use hashsum_core::disk::Checked;
 use hashsum_core::laws::seen;
 use hashsum_core::outcome::{Misuse, Outcome, Wrong, call_of, options, outcome_of};
 use std::alloc::{AllocError, Global};
+use std::fs::File;
 use std::io;
-use std::io::BufWriter;
+use std::io::{BufWriter, Stdin};
 use std::process::ExitCode;
 use streams::failure::Nothing;
 
@@ -57,7 +60,7 @@ fn list(alloc: Global) -> Result<String, AllocError> {
             sum.name(),
             bits,
             cuts,
-            seen::<Watched<'_>, Checked<'_>>(*sum)
+            seen::<Opened<Stdin, File>, Disk<'_>>(*sum)
         )?;
         list.push_str(line.as_str())?;
     }
@@ -96,9 +99,11 @@ impl Program for Hashsum {
             version: VERSION,
             list: list.as_str(),
         };
+        let status = call.gives(b"status");
+        let folder = Shown::new(rt, Disk::new(rt, NAME), call.gives(b"quiet") || status);
         Ok(outcome_of(
             alloc,
-            &Checked::new(rt, NAME, call.gives(b"quiet"), call.gives(b"status")),
+            &Checked::new(rt, NAME, folder, status),
             call,
             about,
             &mut BufWriter::with_capacity(alloc, BUFFER, rt.stdout())?,

@@ -1,4 +1,4 @@
-//! The files of the disk, and what a check of them finds.
+//! What a check of files finds, on standard error.
 
 // What follows is the proved text of crates/hashsum_core/src/disk.rt without its contracts.
 use crate::cli;
@@ -7,33 +7,33 @@ use hashers_proved::shim::{HostRuntime, eprintln, std};
 use crate::hashsum_core::check::Counts;
 use crate::hashsum_core::hints::Hint;
 use crate::hashsum_core::reports::Reports;
-use cli::folder::{Disk, Folder};
-use cli::progress::Watched;
+use cli::folder::Folder;
 use cli::quoted::quoted;
 use std::io;
-use std::io::Error;
+use std::io::{Error, Read};
 
-/// The files of the disk, and what a check of them finds, which is told on standard error.
-pub struct Checked<'r> {
+/// The files of a folder, and what a check of them finds, which is told on standard error.
+pub struct Checked<'r, F> {
     rt: &'r HostRuntime,
-    program: &'static str,
-    disk: Disk<'r>,
+    program: &'r str,
+    folder: F,
     status: bool,
 }
 
-impl<'r> Checked<'r> {
-    /// For the program of that name. With progress, unless it is to be quiet; without warnings, where the status alone tells.
+impl<'r, F> Checked<'r, F> {
+    /// For the program of that name. Without warnings, where the status alone tells.
+    ///
+    /// Proved:
+    ///
+    /// ```text
+    /// result.folder ≡ folder
+    /// ```
     #[inline]
-    pub fn new(
-        rt: &'r HostRuntime,
-        program: &'static str,
-        quiet: bool,
-        status: bool,
-    ) -> Checked<'r> {
+    pub fn new(rt: &'r HostRuntime, program: &'r str, folder: F, status: bool) -> Checked<'r, F> {
         Checked {
             rt,
             program,
-            disk: Disk::new(rt, program, quiet || status),
+            folder,
             status,
         }
     }
@@ -50,19 +50,19 @@ impl<'r> Checked<'r> {
     }
 }
 
-impl<'r> Folder<Watched<'r>> for Checked<'r> {
+impl<R: Read, F: Folder<R>> Folder<R> for Checked<'_, F> {
     #[inline]
-    fn open(&self, name: &[u8]) -> io::Result<Watched<'r>> {
-        self.disk.open(name)
+    fn open(&self, name: &[u8]) -> io::Result<R> {
+        self.folder.open(name)
     }
 
     #[inline]
     fn failed(&self, name: &[u8], error: &Error) {
-        self.disk.failed(name, error);
+        self.folder.failed(name, error);
     }
 }
 
-impl Reports for Checked<'_> {
+impl<F> Reports for Checked<'_, F> {
     #[inline]
     fn improper(&self, list: &[u8], line: u64) {
         let program = self.program;

@@ -8,8 +8,9 @@ use hashers_proved::shim::{HostRuntime, Vec, std};
 use crate::spread::clock::time_of;
 use crate::spread::picture::picture;
 use crate::spread::table::Frame;
-use cli::inputs::open;
-use cli::progress::{Progress, Watched};
+use cli::folder::{Disk, Folder};
+use cli::opened::STANDARD;
+use cli::progress::{Progress, Shown};
 use hash_kinds::table::Kind;
 use spread_core::advice::advise;
 use spread_core::call::Settings;
@@ -27,9 +28,6 @@ use text_set::{RandomKeys, Texts};
 /// How many bytes are read at once.
 const BUFFER: usize = 65536;
 
-/// The name of standard input, and of standard output.
-const STANDARD: &[u8] = b"-";
-
 /// The keys of standard input, each once.
 #[inline]
 fn keys_of_input(rt: &HostRuntime, layout: Layout) -> Result<Texts<RandomKeys>, Failure> {
@@ -39,12 +37,11 @@ fn keys_of_input(rt: &HostRuntime, layout: Layout) -> Result<Texts<RandomKeys>, 
         Err(error) => return Err(Failure::Unread(error)),
     };
     let mut keys = Texts::new(alloc, hasher);
-    let input = match open(rt, STANDARD) {
+    let input = match Shown::new(rt, Disk::new(rt, "spread"), false).open(STANDARD) {
         Ok(input) => input,
         Err(error) => return Err(Failure::Unread(error)),
     };
-    let watched = Watched::new(input, Progress::new(rt, rt.stderr().is_terminal()));
-    match BufReader::with_capacity(alloc, BUFFER, watched) {
+    match BufReader::with_capacity(alloc, BUFFER, input) {
         Ok(mut reader) => read_keys(alloc, &mut keys, layout, &mut reader)?,
         Err(_) => return Err(Failure::NoMemory),
     }
