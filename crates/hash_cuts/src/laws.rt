@@ -1,5 +1,5 @@
 //! Laws of chunks, with no code. Each is of all texts and all sizes that [`Cuts::new`](crate::Cuts::new) takes.
-ghost use Rattle.std.specs.Prelude.{◌≡◌, ◌≢◌, ◌+◌, ◌-◌, ◌%◌, ◌^◌, ◌<◌, ◌≤◌, ◌∷◌, ◌++◌, ℕ, List, [], All, length, map, take};
+ghost use Rattle.std.specs.Prelude.{◌≡◌, ◌≢◌, ◌+◌, ◌-◌, ◌%◌, ◌^◌, ◌<◌, ◌≤◌, ◌∷◌, ◌++◌, ℕ, List, [], All, drop, length, map, take};
 ghost use Rattle.std.specs.List.{concat};
 ghost use Rattle.hashers.specs.Sums.{digit_sum};
 ghost use Rattle.hash_cuts.specs.Cuts.{Cutting, HasSizes, chunk_ends, chunks, ends_from, first_cut};
@@ -12,6 +12,12 @@ pub fn chunks_are_the_text()
         → All (λ chunk. length chunk ≤ cuts.most) (chunks cuts text) }
     ensures least { (cuts : Cutting) (text : List ℕ) → HasSizes cuts
         → All (λ chunk. cuts.least ≤ length chunk) (take (length (chunks cuts text) - 1) (chunks cuts text)) }
+{}
+
+/// The chunks of a text are its first one and those of the rest: what a loop over [`Cuts::chunks`](crate::Cuts::chunks) keeps.
+pub fn first_chunk_and_the_rest()
+    ensures { (cuts : Cutting) (text : List ℕ) → HasSizes cuts → 0 < length text → chunks cuts text
+        ≡ take (first_cut cuts text) text ∷ chunks cuts (drop (first_cut cuts text) text) }
 {}
 
 /// A chunk that ends before the text does depends on its own bytes alone: whatever stands behind it, the first chunk is the same.

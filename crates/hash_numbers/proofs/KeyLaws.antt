@@ -1,5 +1,8 @@
 -- The laws of two different lists of n words, at n multipliers and an addend.
-use Rattle.hash_numbers.proofs.Common.{ℕ, ap, All, AllPairs, AreTables, AreWords, List, [], ap₂, arith, count_by, dot, have_hashes, length, meetings, number_hash, pair_hash, pow-add, share_place, sum_by, words_hash, ◌%◌, ◌*◌, ◌+◌, ◌-◌, ◌/◌, ◌<◌, ◌^◌, ◌∷◌, ◌≡◌, ◌≢◌, ◌≤◌}
+use Rattle.hash_numbers.proofs.Common.{ℕ, ap, All, AllPairs, AreTables, AreWords, List, [], ap₂, arith, cond, count_by, dot, have_hashes, le_of_mul-le-mul_left, length, meetings, mul-le, number_hash, pair_hash, pow-add, share_place, suc, sum_by, sum_by-cons, sym, words_hash, ◌%◌, ◌*◌, ◌+◌, ◌-◌, ◌/◌, ◌<◌, ◌^◌, ◌∙◌, ◌∷◌, ◌≡◌, ◌≢◌, ◌≤◌}
+use Rattle.std.proofs.Common.{mul_assoc, nat_lt}
+use Rattle.std.proofs.Math.Nat.{mul-div-le}
+use Rattle.std.proofs.lemmas.Bool.Decides.{nat_tests}
 use Rattle.hash_numbers.proofs.FromEvenness.{exactly, share_both, share_low}
 use Rattle.hash_numbers.proofs.Meetings.{few_meetings_of}
 use Rattle.hash_numbers.proofs.Words as words
@@ -59,6 +62,46 @@ few_meetings n texts bits keys are_words differ within are =
     few_meetings_of (IsTable n) (hash n) (AreWords n) bits (2 ^ (128 * n + 128 - bits))
     (λ x y x_are y_are apart some is differs have. share n x y bits x_are y_are apart within some is differs have)
     keys are.below are.differ texts are_words differ
+
+-- where a function is above a number, it adds more than that to the sum
+few_above : {X : Type 0} (f : X → ℕ) (m : ℕ) (xs : List X) → suc m * count_by (λ x. nat_lt m (f x)) xs ≤ sum_by f xs
+few_above f m [] = omega arith
+few_above f m (x ∷ xs) =
+    let rest = few_above f m xs in
+    let one : suc m * cond (nat_lt m (f x)) 1 0 ≤ f x = grind (arith, nat_tests) in
+    rw (sum_by-cons (λ y. cond (nat_lt m (f y)) 1 0) x xs, sum_by-cons f x xs) (omega (arith, rest, one))
+
+module _ (n : ℕ) (texts : List (List ℕ)) (bits : ℕ) (keys : List Table) (are_words : All (AreWords n) texts) (differ : AllPairs ◌≢◌ texts)
+    (within : bits ≤ 64) (few : length texts ≤ 2 ^ bits) (are : AreTables n keys) where
+  abbrev meet : Table → ℕ
+  meet key = meetings (share_place bits (words_hash key.0 key.1)) texts
+
+  abbrev all : ℕ
+  all = 2 ^ (128 * n + 128)
+
+  pub mean_meetings : 2 * sum_by meet keys ≤ length texts * all
+  mean_meetings =
+      let m = length texts in
+      let share = 2 ^ (128 * n + 128 - bits) in
+      let pairs : 2 * (m * (m - 1) / 2) ≤ m * 2 ^ bits =
+      omega (arith, mul-div-le (m * (m - 1)) 2, mul-le m (m - 1) m (2 ^ bits) (omega arith) (omega (arith, few))) in
+      let whole : m * 2 ^ bits * share ≡ m * all =
+      mul_assoc m (2 ^ bits) share
+      ∙ ap (λ k. m * k) (sym (pow-add 2 bits (128 * n + 128 - bits))
+      ∙ ap (λ k. 2 ^ k) (let e : bits + (128 * n + 128 - bits) ≡ 128 * n + 128 = omega arith in e)) in
+      omega (
+        arith,
+        few_meetings n texts bits keys are_words differ within are,
+        mul-le (2 * (m * (m - 1) / 2)) share (m * 2 ^ bits) share pairs (omega arith),
+        whole,
+      )
+
+  pub half_of_the_keys : 2 * count_by (λ key. nat_lt (length texts) (meet key)) keys ≤ all
+  half_of_the_keys =
+      let m = length texts in
+      let count = count_by (λ key. nat_lt m (meet key)) keys in
+      let l : suc m * (2 * count) ≤ suc m * all = omega (arith, few_above meet m keys, mean_meetings) in
+      le_of_mul-le-mul_left l (omega arith)
 
 -- ---- numbers are lists of one word and of two
 

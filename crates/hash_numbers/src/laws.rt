@@ -1,7 +1,7 @@
 //! What is proved of the keys under which words meet. Each law is a function with no code. Multipliers and an addend are
 //! numbers below 2^128; where they are drawn at random, the share of them is the chance. The bounds hold for words that
 //! were chosen without knowing the keys, nor anything that depends on them.
-ghost use Rattle.std.specs.Prelude.{◌≡◌, ◌≢◌, ℕ, ◌+◌, ◌-◌, ◌*◌, ◌/◌, ◌%◌, ◌^◌, ◌<◌, ◌≤◌, List, [], ◌∷◌, length, All, AllPairs};
+ghost use Rattle.std.specs.Prelude.{◌≡◌, ◌≢◌, ℕ, ◌+◌, ◌-◌, ◌*◌, ◌/◌, ◌%◌, ◌^◌, ◌<◌, ◌≤◌, List, [], ◌∷◌, length, nat_lt, All, AllPairs};
 ghost use Rattle.std.specs.List.{count_by, sum_by};
 ghost use Rattle.hashers.specs.Counts.{meetings};
 ghost use Rattle.hash_numbers.specs.Numbers.{AreLists, AreTables, AreWords, have_hashes, number_hash, pair_hash, share_place, words_hash};
@@ -56,6 +56,19 @@ pub fn few_meetings()
         → AreTables n keys
         → sum_by (λ key. meetings (share_place bits (words_hash key.0 key.1)) lists) keys
         ≤ length lists * (length lists - 1) / 2 * 2 ^ (128 * n + 128 - bits) }
+{}
+
+/// So of up to 2^bits different lists of words no more than half as many pairs meet as there are lists, on average over all
+/// keys; and at no more than half of the keys do more pairs meet than there are lists.
+pub fn few_meetings_of_few_words()
+    ensures mean { (n : ℕ) (lists : List (List ℕ)) (bits : ℕ) (keys : List (List ℕ × ℕ)) → All (AreWords n) lists
+        → AllPairs ◌≢◌ lists → bits ≤ 64 → length lists ≤ 2 ^ bits → AreTables n keys
+        → 2 * sum_by (λ key. meetings (share_place bits (words_hash key.0 key.1)) lists) keys
+        ≤ length lists * 2 ^ (128 * n + 128) }
+    ensures half { (n : ℕ) (lists : List (List ℕ)) (bits : ℕ) (keys : List (List ℕ × ℕ)) → All (AreWords n) lists
+        → AllPairs ◌≢◌ lists → bits ≤ 64 → length lists ≤ 2 ^ bits → AreTables n keys
+        → 2 * count_by (λ key. nat_lt (length lists)
+        (meetings (share_place bits (words_hash key.0 key.1)) lists)) keys ≤ 2 ^ (128 * n + 128) }
 {}
 
 /// Where the addend is known, whatever it is, a share of at most 2 / 2^bits of the multipliers gives two different lists
