@@ -39,7 +39,8 @@ pub fn few_keys_for_a_place_and_a_tag()
 /// type, always differ where one of them has at most 128 bytes. Of longer ones they are the same at few keys for texts: no
 /// more than `poly61` has for the bytes after the first 128.
 pub fn words_tell_keys_apart()
-    ensures short { (s t : List ℕ) (text_key : ℕ) → IsText s → IsText t → NeitherBegins s t → length s ≤ 128
+    ensures short { (s t : List ℕ) (text_key : ℕ) → IsText s → IsText t → NeitherBegins s t
+        → length s ≤ 128
         → key_words text_key s ≢ key_words text_key t }
     ensures long { (s t : List ℕ) (text_keys : List ℕ) → IsText s → IsText t → NeitherBegins s t
         → AreKeys prime61 text_keys
@@ -51,7 +52,8 @@ pub fn words_tell_keys_apart()
 /// two keys of a map have the same low and high bits is at most one in 2^(low + high), and as much more as `poly61` has for
 /// the bytes after the first 128.
 pub fn few_keys_for_two_keys_of_a_map()
-    ensures { (s t : List ℕ) (low high : ℕ) (keys : List ((List ℕ × ℕ) × ℕ)) → IsText s → IsText t → NeitherBegins s t
+    ensures { (s t : List ℕ) (low high : ℕ) (keys : List ((List ℕ × ℕ) × ℕ)) → IsText s → IsText t
+        → NeitherBegins s t
         → low + high ≤ 64 → AreMapKeys keys
         → All (λ key. (map_hash key.0.0 key.0.1 key.1 s % 2 ^ low ≡ map_hash key.0.0 key.0.1 key.1 t % 2 ^ low)
         × (map_hash key.0.0 key.0.1 key.1 s / 2 ^ (64 - high)

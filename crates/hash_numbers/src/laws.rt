@@ -20,11 +20,13 @@ pub fn numbers_are_words()
 /// Each pair of hashes of two different lists of n words comes from at most one in 2^128 of the n multipliers and
 /// addends; of all of them, from just as many. At random keys two hashes are two random numbers.
 pub fn even_pairs_of_hashes()
-    ensures most { (n : ℕ) (x y : List ℕ) (u v : ℕ) (keys : List (List ℕ × ℕ)) → AreWords n x → AreWords n y → x ≢ y
+    ensures most { (n : ℕ) (x y : List ℕ) (u v : ℕ) (keys : List (List ℕ × ℕ)) → AreWords n x
+        → AreWords n y → x ≢ y
         → AreTables n keys
         → All (λ key. (words_hash key.0 key.1 x ≡ u) × (words_hash key.0 key.1 y ≡ v)) keys
         → length keys ≤ 2 ^ (128 * n) }
-    ensures of_all { (n : ℕ) (x y : List ℕ) (u v : ℕ) (keys : List (List ℕ × ℕ)) → AreWords n x → AreWords n y → x ≢ y
+    ensures of_all { (n : ℕ) (x y : List ℕ) (u v : ℕ) (keys : List (List ℕ × ℕ)) → AreWords n x
+        → AreWords n y → x ≢ y
         → u < 2 ^ 64 → v < 2 ^ 64
         → AreTables n keys → length keys ≡ 2 ^ (128 * n + 128)
         → count_by (λ key. have_hashes x y u v (words_hash key.0 key.1)) keys ≡ 2 ^ (128 * n) }
@@ -34,7 +36,8 @@ pub fn even_pairs_of_hashes()
 /// the place in a table of 2^low places, with all 64 low ones the whole hash. Std's maps take the low bits as the place
 /// and the highest seven as a tag, and compare keys only where both are the same.
 pub fn few_keys_for_a_place_and_a_tag()
-    ensures { (n : ℕ) (x y : List ℕ) (low high : ℕ) (keys : List (List ℕ × ℕ)) → AreWords n x → AreWords n y → x ≢ y
+    ensures { (n : ℕ) (x y : List ℕ) (low high : ℕ) (keys : List (List ℕ × ℕ)) → AreWords n x
+        → AreWords n y → x ≢ y
         → low + high ≤ 64 → AreTables n keys
         → All (λ key. (words_hash key.0 key.1 x % 2 ^ low ≡ words_hash key.0 key.1 y % 2 ^ low)
         × (words_hash key.0 key.1 x / 2 ^ (64 - high) ≡ words_hash key.0 key.1 y / 2 ^ (64 - high))) keys
@@ -51,7 +54,8 @@ pub fn few_keys_for_a_hash()
 /// Over all keys together, the pairs of different lists of words that come into one place of a table of 2^bits places
 /// are as few: this, divided by the number of keys, is how many pairs meet on average.
 pub fn few_meetings()
-    ensures { (n : ℕ) (lists : List (List ℕ)) (bits : ℕ) (keys : List (List ℕ × ℕ)) → All (AreWords n) lists
+    ensures { (n : ℕ) (lists : List (List ℕ)) (bits : ℕ) (keys : List (List ℕ × ℕ))
+        → All (AreWords n) lists
         → AllPairs ◌≢◌ lists → bits ≤ 64
         → AreTables n keys
         → sum_by (λ key. meetings (share_place bits (words_hash key.0 key.1)) lists) keys
@@ -61,11 +65,13 @@ pub fn few_meetings()
 /// So of up to 2^bits different lists of words no more than half as many pairs meet as there are lists, on average over all
 /// keys; and at no more than half of the keys do more pairs meet than there are lists.
 pub fn few_meetings_of_few_words()
-    ensures mean { (n : ℕ) (lists : List (List ℕ)) (bits : ℕ) (keys : List (List ℕ × ℕ)) → All (AreWords n) lists
+    ensures mean { (n : ℕ) (lists : List (List ℕ)) (bits : ℕ) (keys : List (List ℕ × ℕ))
+        → All (AreWords n) lists
         → AllPairs ◌≢◌ lists → bits ≤ 64 → length lists ≤ 2 ^ bits → AreTables n keys
         → 2 * sum_by (λ key. meetings (share_place bits (words_hash key.0 key.1)) lists) keys
         ≤ length lists * 2 ^ (128 * n + 128) }
-    ensures half { (n : ℕ) (lists : List (List ℕ)) (bits : ℕ) (keys : List (List ℕ × ℕ)) → All (AreWords n) lists
+    ensures half { (n : ℕ) (lists : List (List ℕ)) (bits : ℕ) (keys : List (List ℕ × ℕ))
+        → All (AreWords n) lists
         → AllPairs ◌≢◌ lists → bits ≤ 64 → length lists ≤ 2 ^ bits → AreTables n keys
         → 2 * count_by (λ key. nat_lt (length lists)
         (meetings (share_place bits (words_hash key.0 key.1)) lists)) keys ≤ 2 ^ (128 * n + 128) }
@@ -74,7 +80,8 @@ pub fn few_meetings_of_few_words()
 /// Where the addend is known, whatever it is, a share of at most 2 / 2^bits of the multipliers gives two different lists
 /// of words the same low bits, and the same high bits.
 pub fn few_multipliers()
-    ensures place { (n : ℕ) (x y : List ℕ) (addend bits : ℕ) (multipliers : List (List ℕ)) → AreWords n x → AreWords n y
+    ensures place { (n : ℕ) (x y : List ℕ) (addend bits : ℕ) (multipliers : List (List ℕ)) → AreWords n x
+        → AreWords n y
         → x ≢ y → bits ≤ 64 → AreLists n multipliers
         → All (λ a. words_hash a addend x % 2 ^ bits ≡ words_hash a addend y % 2 ^ bits) multipliers
         → length multipliers ≤ 2 ^ (128 * n + 1 - bits) }

@@ -232,7 +232,8 @@ pub fn remove(points: &mut [Point], gone: usize) -> usize
 /// What `add` and `remove` move, a law with no code: the nodes as maps, of which the owners' laws speak, have one more or one less, and
 /// keys move to the new node alone, or from the one that has gone.
 pub fn only_one_nodes_keys_move()
-    ensures came { (hash : List ℕ → ℕ) (nodes : List (List ℕ × ℕ)) (points : List Point) (name : List ℕ) (weight index : ℕ)
+    ensures came { (hash : List ℕ → ℕ) (nodes : List (List ℕ × ℕ)) (points : List Point) (name : List ℕ)
+        (weight index : ℕ)
         → IsRing hash nodes points → IsGapAt nodes name index
         → (nodes_of (insert nodes index (name, weight)) ≡ map.insert (nodes_of nodes) name weight)
         × MovesOnlyTo hash (nodes_of nodes) (nodes_of (insert nodes index (name, weight))) name }

@@ -114,7 +114,8 @@ pub fn each_number_has_its_digits()
 /// What is written of a file that holds a text, and whose name has a byte, tells the hash of this text, in either form, with escapes or
 /// without.
 pub fn what_is_written_of_a_text_tells_its_hash()
-    ensures { (keys : ℕ × ℕ) (kinds : List Sum) (default kind : Sum) (form : Form) → MayBeTold kinds default form kind
+    ensures { (keys : ℕ × ℕ) (kinds : List Sum) (default kind : Sum) (form : Form)
+        → MayBeTold kinds default form kind
         → keys.0 < 2 ^ 64 → keys.1 < 2 ^ 64
         → (escapes : Bool) (name text : List ℕ) → name ≢ [] → IsText text → let number = sum_of keys kind text in
         Tells kinds default kind name number (line_of form escapes kind name number) }
