@@ -5,10 +5,8 @@ use cli::frame::About;
 use cli::inputs::{Complaints, Input, inputs};
 use cli::outcome::{failure_of, status_of};
 use dedup_core::outcome::{Outcome, call_of, outcome_of};
-use hashers::build::BuildFresh;
-use hashers::null::NullHasher;
 use std::alloc::Global;
-use std::hash::BuildHasher;
+use std::hash::{BuildHasher, Hasher};
 use std::io;
 use std::io::{BufWriter, ErrorKind, Read};
 use std::process::Abort;
@@ -77,17 +75,43 @@ impl Fresh for RandomKeys {
 }
 
 /// To all texts one hash.
-type Alike = BuildFresh<NullHasher>;
+#[derive(Clone, Copy, Drop)]
+struct Alike;
 
 impl Fresh for Alike {
     fn fresh() -> Alike {
-        Alike::new()
+        Alike
     }
 }
 
-/// What became of a call, without the error itself.
-fn status(outcome: &Outcome) -> End {
-    (status_of(outcome), failure_of(outcome))
+impl BuildHasher for Alike {
+    type Hasher = Alike;
+
+    ghost build_hasher = { λ alike. alike };
+
+    fn build_hasher(&self) -> Alike {
+        Alike
+    }
+}
+
+impl Hasher for Alike {
+    ghost write = { λ alike bytes. alike };
+
+    ghost finish = { λ alike. 0 };
+
+    fn finish(&self) -> u64 {
+        0
+    }
+
+    fn write(&mut self, _bytes: &[u8]) {}
+}
+
+/// What became of a call, without the error itself; `None` is a call that had no memory for its words.
+fn end_of(outcome: Option<Outcome>) -> End {
+    match outcome {
+        Some(outcome) => (status_of(&outcome), failure_of(&outcome)),
+        None => NO_MEMORY,
+    }
 }
 
 /// How many bytes the writer keeps before it writes them.
@@ -100,17 +124,11 @@ fn run_all<H: Fresh, R: Read>(
     inputs: &mut [R],
     failures: &mut Failures,
     w: &mut Paper,
-) -> End {
-    let Ok(words) = arguments_of(alloc, words) else {
-        return NO_MEMORY;
-    };
-    let Ok(call) = call_of(alloc, &words) else {
-        return NO_MEMORY;
-    };
-    let Ok(mut output) = BufWriter::with_capacity(alloc, HELD, w) else {
-        return NO_MEMORY;
-    };
-    status(&outcome_of(
+) -> Option<Outcome> {
+    let words = arguments_of(alloc, words).ok()?;
+    let call = call_of(alloc, &words).ok()?;
+    let mut output = BufWriter::with_capacity(alloc, HELD, w).ok()?;
+    Some(outcome_of(
         alloc,
         H::fresh(),
         &call,
@@ -127,7 +145,8 @@ fn run_all<H: Fresh, R: Read>(
 
 /// Runs the program over a text, onto this paper.
 fn run<H: Fresh>(alloc: Global, words: &[&str], r: Script<'_>, w: &mut Paper) -> End {
-    run_all::<H, Script<'_>>(alloc, words, &mut [r], &mut Failures::new(), w)
+    let outcome = run_all::<H, Script<'_>>(alloc, words, &mut [r], &mut Failures::new(), w);
+    end_of(outcome)
 }
 
 /// That the program ends so, and wrote this.
@@ -261,6 +280,19 @@ fn four_files() -> [File<'static>; 4] {
     ]
 }
 
+/// Runs the program over the files of a shelf.
+fn run_files<'a>(
+    alloc: Global,
+    words: &[&str],
+    shelf: &'a Shelf<'a>,
+    names: &[&'a [u8]],
+    failures: &mut Failures,
+    w: &mut Paper,
+) -> Option<Outcome> {
+    let mut files = inputs::<Script<'a>, Shelf<'a>>(alloc, shelf, names).ok()?;
+    run_all::<RandomKeys, Input<'a, Script<'a>, Shelf<'a>>>(alloc, words, &mut files, failures, w)
+}
+
 #[test]
 fn inputs_one_behind_the_other(rt: HostRuntime) {
     let calls: [(&[&str], &[u8]); 2] = [
@@ -273,14 +305,8 @@ fn inputs_one_behind_the_other(rt: HostRuntime) {
         let shelf = Shelf { files: &files };
         let mut paper = Paper::sound(64);
         let mut failures = Failures::new();
-        let end = run_all::<RandomKeys, Input<'_, Script<'_>, Shelf<'_>>>(
-            rt.alloc(),
-            words,
-            &mut inputs(rt.alloc(), &shelf, &names).expect(&rt, "memory"),
-            &mut failures,
-            &mut paper,
-        );
-        ended(&rt, end, INPUT_FAILED);
+        let outcome = run_files(rt.alloc(), words, &shelf, &names, &mut failures, &mut paper);
+        ended(&rt, end_of(outcome), INPUT_FAILED);
         same_bytes(&rt, paper.text(), output);
         all_hold(&rt, &[failures.inputs == 2, failures.count == 1]);
     }
