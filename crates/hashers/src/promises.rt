@@ -201,9 +201,9 @@ pub fn xxh3_64_of_writes(seed: u64, writes: &[HasherWrite]) -> u64
 pub fn xxh3_128_of_writes(seed: u64, writes: &[HasherWrite]) -> (u64, u64)
     ensures { result ≡ xxh3_128_of seed (joined_written writes.now) }
 {
-    let mut hasher = Xxh3Hasher::new(seed);
-    run_writes_streamed(&mut hasher, writes);
-    hasher.finish128()
+    let mut wide = Xxh3Hasher::new(seed);
+    run_writes_streamed(&mut wide, writes);
+    wide.finish128()
 }
 
 /// `lookup3` of the writes: each of some bytes is one run from the two words before.
