@@ -5,6 +5,7 @@ use hashers_proved::blocks::{
     Murmur3Rule32,
 };
 use hashers_proved::xxh3::unmix::{bytes_for, bytes_for_wide};
+use hashers_proved::xxh3::laws::hash_one_number;
 use hashers_proved::xxh3::{apart_xxh128, apart_xxh3, xxh3_128, xxh3_64, BuildXxh3, Xxh3Hasher, Xxh3Place};
 use std::hash::{BuildHasher, Hasher};
 
@@ -186,5 +187,6 @@ fn texts_for_hashes_and_keys_of_maps_under_xxh3() {
         assert_eq!(bytes_for(seed, xxh3_64(seed, &eight)), eight);
         assert_eq!(bytes_for_wide(seed, xxh3_128(seed, &text))[..], text);
         assert_eq!(BuildXxh3 { seed }.hash_one(u64::from_le_bytes(eight)), xxh3_64(seed, &eight));
+        assert_eq!(hash_one_number(BuildXxh3 { seed }, u64::from_le_bytes(eight)), xxh3_64(seed, &eight));
     }
 }
