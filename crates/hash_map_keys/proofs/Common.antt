@@ -31,12 +31,13 @@ pub use Rattle.hashers.proofs.TextLaws.{IsByte, IsText-from_slice, IsText-le_byt
 pub use Rattle.hashers.specs.Text.{IsText}
 pub use Rattle.hashers.specs.Words.{xorshift}
 unfoldable pub use Rattle.hashers.specs.Words.{le}
+pub use Rattle.std.specs.Prelude.{if◌then◌else◌, nat_lt}
 pub use Rattle.std.proofs.Common.{All, AllPairs, Bool, List, [], add_comm, ap, append_assoc, ap₂, arith, bit_xor, drop, false, filter, fold, get_or, inl, inr, length, length-drop, lit<, lit≤, max, min, mod-eq_of_lt, nat_eq, refl, slice_index, subst, suc, sym, take, true, w64, zero, ℕ, ◌%◌, ◌&&◌, ◌*◌, ◌++◌, ◌+◌, ◌-◌, ◌/◌, ◌<◌, ◌^◌, ◌∙◌, ◌∷◌, ◌≡◌, ◌≢◌, ◌≤◌}
 pub use Rattle.std.proofs.Math.ListN.{drop_of_length-le}
 pub use Rattle.std.proofs.Math.Pow.{pow_mono}
 pub use Rattle.std.proofs.Math.Seq.{drop-append-add, drop-append_seam, take-add, take-append-add, take-append_seam, take-length}
-pub use Rattle.std.proofs.lemmas.Bool.{cases_lt, eq-eqb, eqb-true, false≢true, true≢false}
-pub use Rattle.std.proofs.lemmas.List.{append-nil, drop-append-le, drop_min, length-append, length-take, length-take-le, nil_from_length, take-append-drop, take-append-le, take-take, take_all, take_min}
+pub use Rattle.std.proofs.lemmas.Bool.{cases_lt, eq-eqb, eqb-true, false≢true, le-ltb, lt-ltb, true≢false}
+pub use Rattle.std.proofs.lemmas.List.{append-nil, drop-append-le, drop-drop, drop_min, length-append, length-take, length-take-le, nil_from_length, take-append-drop, take-append-le, take-take, take_all, take_min}
 pub use Rattle.std.proofs.lemmas.List.Elements.{All-append, All-cons, All-drop, All-filter, All-nil, All-take, filter_passes}
 pub use Rattle.std.proofs.lemmas.List.Kept.{AllPairs-filter}
 pub use Rattle.std.proofs.lemmas.List.Sums.{fold-append, length-filter}

@@ -1,6 +1,6 @@
 -- The words of a key of a map, and what its bytes add to the sum.
-use Rattle.hash_map_keys.proofs.Common.{ℕ, All, All-append, All-cons, All-drop, All-nil, All-take, AreWords, IsByte, IsText, List, None, [], ap, ap₂, arith, cases_lt, dot, drop, drop_of_length-le, eights, inl, inr, key_words, last_word, le, le-few, length, length-append, length-take, length-take-le, poly61, poly61-is, prime61, refl, rest_after, share, slice_index, suc, sym, take, take-add, take_all, word_of, zero, ◌%◌, ◌*◌, ◌++◌, ◌+◌, ◌/◌, ◌<◌, ◌^◌, ◌∙◌, ◌∷◌, ◌≡◌, ◌≤◌}
-use Rattle.hash_map_keys.proofs.Shares.{nothing_more, piece_in, share-append}
+use Rattle.hash_map_keys.proofs.Common.{All, All-append, All-cons, All-drop, All-nil, All-take, AreWords, IsByte, IsText, List, None, [], ap, ap₂, arith, cases_lt, dot, drop, drop_of_length-le, eights, if◌then◌else◌, inl, inr, key_words, last_word, le, le-few, le-ltb, length, length-append, length-take, length-take-le, lt-ltb, min, nat_lt, poly61, poly61-is, prime61, refl, rest_after, share, slice_index, suc, sym, take, take-add, take_all, word_of, zero, ℕ, ◌%◌, ◌*◌, ◌++◌, ◌+◌, ◌<◌, ◌^◌, ◌∙◌, ◌∷◌, ◌≡◌, ◌≤◌}
+use Rattle.hash_map_keys.proofs.Shares.{nothing_more, one_word, share-append}
 
 -- ---- products by place
 
@@ -35,14 +35,6 @@ unfolding eights
 length-eights zero bytes = refl
 length-eights (suc n) bytes = omega (arith, length-eights n (drop 8 bytes))
 
--- of no bytes more than 8
-first_eight : (t : List ℕ) (j : ℕ) (bytes : List ℕ) → length bytes ≤ 8 → share t (8 * j) bytes ≡ slice_index t j * le bytes
-first_eight t j bytes few =
-    let place : 8 * j % 8 ≡ 0 = omega arith in
-    let word : 8 * j / 8 ≡ j = omega arith in
-    piece_in t (8 * j) bytes (omega (arith, few, place)) ∙ ap₂ (λ k o. slice_index t k * (le bytes * 2 ^ (8 * o))) word place
-    ∙ ap (λ z. slice_index t j * z) (let e : le bytes * 1 ≡ le bytes = omega arith in e)
-
 pub eights_share : (t : List ℕ) (n j : ℕ) (bytes : List ℕ) → dot_at t j (eights n bytes) ≡ share t (8 * j) (take (8 * n) bytes)
 unfolding dot_at eights
 eights_share t zero j bytes = sym (nothing_more t (8 * j))
@@ -61,7 +53,7 @@ eights_share t (suc n) j bytes =
           ∙ ap (share t (8 * j + length first)) (sym none)
     ] in
     ap (λ z. slice_index t j * le first + z) (eights_share t n (suc j) (drop 8 bytes) ∙ others)
-    ∙ ap (λ z. z + share t (8 * j + length first) more) (sym (first_eight t j first few))
+    ∙ ap (λ z. z + share t (8 * j + length first) more) (sym (one_word t j first few))
     ∙ sym (share-append t (8 * j) first more) ∙ ap (share t (8 * j)) (sym split)
 
 -- the seventeen words times the multipliers
@@ -105,3 +97,15 @@ pub rest_word : (key : ℕ) (more : List ℕ) → word_of (rest_after key None m
 unfolding rest_after word_of last_word
 rest_word key [] = refl
 rest_word key (byte ∷ bytes) = sym (poly61-is (key % prime61) (byte ∷ bytes))
+
+-- the word of an answer, by how many bytes there were
+pub word_is : (key : ℕ) (bytes : List ℕ)
+    → (if nat_lt 128 (min 129 (0 + length bytes)) then word_of (rest_after key None (drop 128 bytes)) else 0) ≡ last_word (key % prime61) (drop 128 bytes)
+unfolding last_word
+word_is key bytes =
+    let w = word_of (rest_after key None (drop 128 bytes)) in
+    let held = min 129 (0 + length bytes) in
+    elim (cases_lt 128 (length bytes)) [
+      | inl many ↦ ap (λ b. if b then w else 0) (lt-ltb 128 held (omega (arith, many))) ∙ rest_word key (drop 128 bytes)
+      | inr few ↦ ap (λ b. if b then w else 0) (le-ltb 128 held (omega (arith, few))) ∙ sym (ap (last_word (key % prime61)) (drop_of_length-le bytes few))
+    ]

@@ -1,5 +1,5 @@
--- Up to eight bytes by the first four and the last four.
-use Rattle.hash_map_keys.proofs.Common.{ℕ, IsText, List, [], arith, drop, length, lit<, take, ◌%◌, ◌*◌, ◌+◌, ◌-◌, ◌/◌, ◌^◌, ◌∷◌, ◌≡◌, ◌≤◌}
+-- Up to eight bytes by the first four and the last four, or by the last eight of more.
+use Rattle.hash_map_keys.proofs.Common.{All-drop, All-take, IsByte, IsText, List, [], add_comm, ap, arith, drop, drop-drop, le-append, le-power, length, length-drop, length-take-le, lit<, shr_high, subst, sym, take, take-append-drop, ℕ, ◌%◌, ◌*◌, ◌+◌, ◌-◌, ◌/◌, ◌<◌, ◌^◌, ◌∙◌, ◌∷◌, ◌≡◌, ◌≤◌}
 use Rattle.hash_words.specs.Words.{le}
 
 -- four to eight bytes by the first four and the last four
@@ -16,3 +16,18 @@ by_fours (a ∷ b ∷ c ∷ d ∷ e ∷ f ∷ g ∷ []) are some few =
 by_fours (a ∷ b ∷ c ∷ d ∷ e ∷ f ∷ g ∷ h ∷ []) are some few =
     omega (arith, are 4 0 (lit< tt), are 5 0 (lit< tt), are 6 0 (lit< tt), are 7 0 (lit< tt))
 by_fours other are some few = absurd (omega arith)
+
+pub of_last : (t : List ℕ) (k : ℕ) → IsText t → 8 ≤ length t → k ≤ 8 → le (drop (length t - 8) t) / 2 ^ (64 - 8 * k) ≡ le (drop (length t - k) t)
+of_last t k are long few =
+    let last = drop (length t - 8) t in
+    let front = take (8 - k) last in
+    let back = drop (8 - k) last in
+    let front_long : length front ≡ 8 - k = length-take-le (8 - k) last (omega (arith, length-drop (length t - 8) t, long)) in
+    let bits : 8 * length front ≡ 64 - 8 * k = omega (arith, front_long, few) in
+    let whole : le last ≡ le back * 2 ^ (64 - 8 * k) + le front =
+    ap le (sym (take-append-drop (8 - k) last)) ∙ le-append front back ∙ add_comm (le front) (le back * 2 ^ (8 * length front))
+    ∙ ap (λ n. le back * 2 ^ n + le front) bits in
+    let front_is = All-take IsByte (8 - k) last (All-drop IsByte (length t - 8) t are) in
+    ap (λ n. n / 2 ^ (64 - 8 * k)) whole
+    ∙ shr_high (le back) (64 - 8 * k) (le front) (subst (λ n. le front < 2 ^ n) bits (le-power front front_is))
+    ∙ ap le (drop-drop (8 - k) (length t - 8) t ∙ ap (λ n. drop n t) (let e : length t - 8 + (8 - k) ≡ length t - k = omega (arith, long, few) in e))

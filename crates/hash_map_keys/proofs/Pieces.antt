@@ -1,7 +1,7 @@
 -- The hash of a key of a map is that of its bytes, however they are split.
-use Rattle.hash_map_keys.proofs.Common.{ℕ, Bor, List, MapHasher, MapKeys, None, [], after_write, answer_of, ap, append-nil, append_assoc, arith, concat, drop, drop_of_length-le, fold, fresh_at, last_word, length, map_hash, prime61, rest_after, share, slice_index, sym, take, take_all, word_of, ◌%◌, ◌*◌, ◌++◌, ◌+◌, ◌/◌, ◌^◌, ◌∙◌, ◌∷◌, ◌≡◌, ◌≤◌}
-use Rattle.hash_map_keys.proofs.Dots.{key_dot, rest_word}
-use Rattle.hash_map_keys.proofs.Shares.{nothing_more, rest_same, two_writes}
+use Rattle.hash_map_keys.proofs.Common.{ℕ, Bor, List, MapHasher, MapKeys, [], after_write, answer_of, ap, append-nil, append_assoc, arith, concat, drop, fold, fresh_at, last_word, map_hash, prime61, share, slice_index, sym, take, take_all, ◌%◌, ◌*◌, ◌++◌, ◌+◌, ◌/◌, ◌^◌, ◌∙◌, ◌∷◌, ◌≡◌}
+use Rattle.hash_map_keys.proofs.Dots.{key_dot, word_is}
+use Rattle.hash_map_keys.proofs.Shares.{nothing_more, two_writes}
 
 at_once : (h : MapHasher) (bytes : List ℕ) (pieces : List (List ℕ)) → fold after_write (after_write h bytes) pieces ≡ after_write h (bytes ++ concat pieces)
 at_once h bytes [] = ap (after_write h) (sym (append-nil bytes))
@@ -22,20 +22,15 @@ module _ (keys : Bor MapKeys) where
       let w = last_word (key % prime61) (drop 128 bytes) in
       let m = slice_index t 16 in
       let a = keys.now.addend in
-      ap (λ v. ((a + s) % 2 ^ 128 + m * v) % 2 ^ 128 / 2 ^ 64) (rest_word key (drop 128 bytes))
+      ap (λ v. ((a + s) % 2 ^ 128 + m * v) % 2 ^ 128 / 2 ^ 64) (word_is key bytes)
       ∙ ap (λ z. z / 2 ^ 64) (let e : ((a + s) % 2 ^ 128 + m * w) % 2 ^ 128 ≡ (s + m * w + a) % 2 ^ 128 = omega arith in e)
       ∙ ap (λ z. (z + a) % 2 ^ 128 / 2 ^ 64) (sym (key_dot t (key % prime61) bytes))
 
   none : answer_of (fresh_at keys) ≡ answer_of (after_write (fresh_at keys) [])
   none =
       let a = keys.now.addend in
-      let m = slice_index t 16 in
-      let sum : a % 2 ^ 128 ≡ (a + share t 0 (take 128 [])) % 2 ^ 128 =
-      ap (λ z. z % 2 ^ 128) (let e : a ≡ a + share t 0 (take 128 []) = omega (arith, ap (share t 0) (take_all 128 [] (omega arith)) ∙ nothing_more t 0) in e) in
-      let few : length {A = ℕ} [] ≤ 128 = omega arith in
-      let rest : None ≡ rest_after key None (drop 128 []) = sym (ap (rest_after key None) (drop_of_length-le [] few) ∙ rest_same key None) in
-      ap (λ z. z / 2 ^ 64) (let e : (a + m * word_of None) % 2 ^ 128 ≡ ((a + share t 0 (take 128 [])) % 2 ^ 128 + m * word_of None) % 2 ^ 128 = omega (arith, sum) in e)
-      ∙ ap (λ r. ((a + share t 0 (take 128 [])) % 2 ^ 128 + m * word_of r) % 2 ^ 128 / 2 ^ 64) rest
+      let nothing = ap (share t 0) (take_all 128 [] (omega arith)) ∙ nothing_more t 0 in
+      ap (λ z. z / 2 ^ 64) (let e : (a + slice_index t 16 * 0) % 2 ^ 128 ≡ ((a + share t 0 (take 128 [])) % 2 ^ 128 + slice_index t 16 * 0) % 2 ^ 128 = omega (arith, nothing) in e)
 
   pub of_pieces : (pieces : List (List ℕ)) → answer_of (fold after_write (fresh_at keys) pieces)
       ≡ map_hash t keys.now.addend (key % prime61) (concat pieces)

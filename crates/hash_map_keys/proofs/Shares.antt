@@ -1,5 +1,5 @@
 -- What bytes add to a sum, by the words that they stand in.
-use Rattle.hash_map_keys.proofs.Common.{ℕ, All-cons, All-nil, All-take, IsByte, IsText, IsText-le_bytes, IsText-to_le_bytes, List, MapHasher, None, Option, Position, Some, [], add_comm, after, after_write, answer_of, ap, append-nil, ap₂, arith, as_word, byte_in, cases_lt, drop, drop-append-add, drop-append-le, drop_min, drop_of_length-le, fold-append, inl, inr, le, le-append, le-begins, le-le_bytes, le-power, le-same, le-to_le_bytes-64, le_bytes, length, length-append, length-drop, length-le_bytes, length-take-le, min, mod-eq_of_lt, mul-le, nil_from_length, poly_end, pow-add, pow_mono, pow_pos, prime61, refl, rest_after, share, shr_high, slice_index, start_at, subst, suc, sym, take, take-append-add, take-append-drop, take-append-le, take-length, take_all, take_min, to_le_bytes, w64, word_of, ◌%◌, ◌*◌, ◌++◌, ◌+◌, ◌-◌, ◌/◌, ◌<◌, ◌^◌, ◌∙◌, ◌∷◌, ◌≡◌, ◌≢◌, ◌≤◌}
+use Rattle.hash_map_keys.proofs.Common.{All-cons, All-nil, All-take, IsByte, IsText, IsText-le_bytes, IsText-to_le_bytes, List, MapHasher, None, Option, Position, Some, [], add_comm, after, after_write, answer_of, ap, append-nil, ap₂, arith, as_word, byte_in, cases_lt, drop, drop-append-add, drop-append-le, drop_min, drop_of_length-le, fold-append, if◌then◌else◌, inl, inr, le, le-append, le-begins, le-le_bytes, le-ltb, le-power, le-same, le-to_le_bytes-64, le_bytes, length, length-append, length-drop, length-le_bytes, length-take, length-take-le, lt-ltb, min, mod-eq_of_lt, mul-le, nil_from_length, poly_end, pow-add, pow_mono, pow_pos, prime61, refl, rest_after, share, shr_high, slice_index, start_at, subst, suc, sym, take, take-append-add, take-append-drop, take-append-le, take-length, take_all, take_min, to_le_bytes, w64, word_of, ℕ, ◌%◌, ◌*◌, ◌++◌, ◌+◌, ◌-◌, ◌/◌, ◌<◌, ◌^◌, ◌∙◌, ◌∷◌, ◌≡◌, ◌≢◌, ◌≤◌}
 
 -- ---- sums
 
@@ -60,28 +60,40 @@ piece_more t sum at k number rest are value within few =
     ∙ ap (λ n. share t at (take k rest) + share t (at + n) (drop k rest)) long in
     omega (arith, piece, both)
 
--- the same of bytes that begin a word
-pub word_more : (t : List ℕ) (sum at k number : ℕ) (rest : List ℕ) → number ≡ le (take k rest) → k ≤ length rest → at % 8 ≡ 0 → k ≤ 8
-    → ((sum + slice_index t (at / 8) * number) % 2 ^ 128 + share t (at + k) (drop k rest)) % 2 ^ 128 ≡ (sum + share t at rest) % 2 ^ 128
-word_more t sum at k number rest value within first few =
-    let long = length-take-le k rest within in
-    let power : 2 ^ (8 * (at % 8)) ≡ 1 = ap (λ o. 2 ^ (8 * o)) first in
-    let piece : slice_index t (at / 8) * number ≡ share t at (take k rest) =
-    ap (λ n. slice_index t (at / 8) * n) (value ∙ (let e : le (take k rest) ≡ le (take k rest) * 1 = omega arith in e) ∙ ap (λ p. le (take k rest) * p) (sym power))
-    ∙ sym (piece_in t at (take k rest) (omega (arith, long, first, few))) in
-    let both : share t at rest ≡ share t at (take k rest) + share t (at + k) (drop k rest) =
-    ap (share t at) (sym (take-append-drop k rest)) ∙ share-append t at (take k rest) (drop k rest)
-    ∙ ap (λ n. share t at (take k rest) + share t (at + n) (drop k rest)) long in
+-- no more than eight bytes, which begin a word
+pub one_word : (t : List ℕ) (j : ℕ) (bytes : List ℕ) → length bytes ≤ 8 → share t (8 * j) bytes ≡ slice_index t j * le bytes
+one_word t j bytes few =
+    let place : 8 * j % 8 ≡ 0 = omega arith in
+    let word : 8 * j / 8 ≡ j = omega arith in
+    piece_in t (8 * j) bytes (omega (arith, few, place)) ∙ ap₂ (λ k o. slice_index t k * (le bytes * 2 ^ (8 * o))) word place
+    ∙ ap (λ z. slice_index t j * z) (let e : le bytes * 1 ≡ le bytes = omega arith in e)
+
+pub word_last : (t : List ℕ) (sum j number : ℕ) (rest : List ℕ) → number ≡ le rest → length rest ≤ 8
+    → (sum + slice_index t j * number) % 2 ^ 128 ≡ (sum + share t (8 * j) rest) % 2 ^ 128
+word_last t sum j number rest value few =
+    ap (λ z. (sum + z) % 2 ^ 128) (ap (λ n. slice_index t j * n) value ∙ sym (one_word t j rest few))
+
+-- a word in, and the rest
+pub word_more : (t : List ℕ) (sum j number : ℕ) (rest : List ℕ) → number ≡ le (take 8 rest) → 8 ≤ length rest
+    → ((sum + slice_index t j * number) % 2 ^ 128 + share t (8 * (j + 1)) (drop 8 rest)) % 2 ^ 128 ≡ (sum + share t (8 * j) rest) % 2 ^ 128
+word_more t sum j number rest value within =
+    let long = length-take-le 8 rest within in
+    let piece : slice_index t j * number ≡ share t (8 * j) (take 8 rest) =
+    ap (λ n. slice_index t j * n) value ∙ sym (one_word t j (take 8 rest) (omega (arith, long))) in
+    let both : share t (8 * j) rest ≡ share t (8 * j) (take 8 rest) + share t (8 * (j + 1)) (drop 8 rest) =
+    ap (share t (8 * j)) (sym (take-append-drop 8 rest)) ∙ share-append t (8 * j) (take 8 rest) (drop 8 rest)
+    ∙ ap (λ k. share t (8 * j) (take 8 rest) + share t k (drop 8 rest)) (let e : 8 * j + length (take 8 rest) ≡ 8 * (j + 1) = omega (arith, long) in e) in
     omega (arith, piece, both)
 
--- the last bytes, which begin a word
-pub word_last : (t : List ℕ) (sum at number : ℕ) (rest : List ℕ) → number ≡ le rest → at % 8 ≡ 0 → length rest ≤ 8
-    → (sum + slice_index t (at / 8) * number) % 2 ^ 128 ≡ (sum + share t at rest) % 2 ^ 128
-word_last t sum at number rest value first few =
-    let power : 2 ^ (8 * (at % 8)) ≡ 1 = ap (λ o. 2 ^ (8 * o)) first in
-    ap (λ z. (sum + z) % 2 ^ 128)
-    (ap (λ n. slice_index t (at / 8) * n) (value ∙ (let e : le rest ≡ le rest * 1 = omega arith in e) ∙ ap (λ p. le rest * p) (sym power))
-    ∙ sym (piece_in t at rest (omega (arith, first, few))))
+-- a word in, and the last bytes
+pub last_two : (t : List ℕ) (sum j number last : ℕ) (bytes more : List ℕ) → number ≡ le (take 8 bytes) → 8 ≤ length bytes → more ≡ drop 8 bytes
+    → last ≡ le (drop (length bytes - length more) bytes) → length more ≤ 8
+    → ((sum + slice_index t j * number) % 2 ^ 128 + slice_index t (j + 1) * last) % 2 ^ 128 ≡ (sum + share t (8 * j) bytes) % 2 ^ 128
+last_two t sum j number last bytes more value within cut end few =
+    let behind : length bytes - length more ≡ 8 = omega (arith, ap length cut, length-drop 8 bytes, within) in
+    let short : length (drop 8 bytes) ≤ 8 = omega (arith, ap length cut, few) in
+    word_last t ((sum + slice_index t j * number) % 2 ^ 128) (j + 1) last (drop 8 bytes) (end ∙ ap (λ n. le (drop n bytes)) behind) short
+    ∙ word_more t sum j number bytes value within
 
 pub nothing_more : (t : List ℕ) (at : ℕ) → share t at [] ≡ 0
 unfolding share
@@ -113,17 +125,29 @@ rest_joined key (Some at) (x ∷ a) (y ∷ b) = ap (λ p. Some p) (sym (fold-app
 
 -- ---- the answer
 
-pub answer_none : (h : MapHasher) → h.rest ≡ None → h.sum < 2 ^ 128 → h.sum / 2 ^ 64 ≡ answer_of h
-unfolding word_of
-answer_none h none within =
-    let m = slice_index h.keys.now.multipliers 16 in
-    ap (λ z. z / 2 ^ 64) (let e : h.sum ≡ (h.sum + m * 0) % 2 ^ 128 = omega (arith, within) in e)
-    ∙ ap (λ r. (h.sum + m * word_of r) % 2 ^ 128 / 2 ^ 64) (sym none)
+pub high_only : (h : MapHasher) → h.sum < 2 ^ 128 → h.sum / 2 ^ 64 ≡ (h.sum + slice_index h.keys.now.multipliers 16 * 0) % 2 ^ 128 / 2 ^ 64
+high_only h within =
+    ap (λ z. z / 2 ^ 64) (let e : h.sum ≡ (h.sum + slice_index h.keys.now.multipliers 16 * 0) % 2 ^ 128 = omega (arith, within) in e)
 
-pub answer_some : (h : MapHasher) (at : Position) → h.rest ≡ Some at
-    → (h.sum + slice_index h.keys.now.multipliers 16 * as_word (poly_end at)) % 2 ^ 128 / 2 ^ 64 ≡ answer_of h
+pub answer_short : (h : MapHasher) → h.held ≤ 128 → h.sum < 2 ^ 128 → h.sum / 2 ^ 64 ≡ answer_of h
+answer_short h few within =
+    high_only h within
+    ∙ ap (λ b. (h.sum + slice_index h.keys.now.multipliers 16 * (if b then word_of h.rest else 0)) % 2 ^ 128 / 2 ^ 64) (sym (le-ltb 128 h.held few))
+
+pub answer_long : (h : MapHasher) (word : ℕ) → 128 < h.held → word ≡ word_of h.rest
+    → (h.sum + slice_index h.keys.now.multipliers 16 * word) % 2 ^ 128 / 2 ^ 64 ≡ answer_of h
+answer_long h word many is =
+    let m = slice_index h.keys.now.multipliers 16 in
+    ap (λ z. (h.sum + m * z) % 2 ^ 128 / 2 ^ 64) is
+    ∙ ap (λ b. (h.sum + m * (if b then word_of h.rest else 0)) % 2 ^ 128 / 2 ^ 64) (sym (lt-ltb 128 h.held many))
+
+pub word_some : (rest : Option Position) (at : Position) → rest ≡ Some at → as_word (poly_end at) ≡ word_of rest
 unfolding word_of
-answer_some h at some = ap (λ r. (h.sum + slice_index h.keys.now.multipliers 16 * word_of r) % 2 ^ 128 / 2 ^ 64) (sym some)
+word_some rest at some = ap word_of (sym some)
+
+pub word_none : (rest : Option Position) → rest ≡ None → 0 ≡ word_of rest
+unfolding word_of
+word_none rest none = ap word_of (sym none)
 
 -- ---- a hasher after a write
 
@@ -139,30 +163,28 @@ same_parts h sum sum2 held held2 rest rest2 one two three =
     ap₂ (λ (s k : ℕ). with_parts h s k rest) one two ∙ ap (λ r. with_parts h sum2 held2 r) three
 
 -- bytes of which the first that there is room for were taken in
-pub first_part : (h : MapHasher) (bytes first more : List ℕ) (k sum : ℕ) (rest : Option Position) → k ≡ min (length bytes) (128 - h.held)
+pub first_part : (h : MapHasher) (bytes first more : List ℕ) (k sum held : ℕ) (rest : Option Position) → k ≡ min (length bytes) (128 - h.held)
     → first ≡ take k bytes → more ≡ drop k bytes → sum ≡ (h.sum + share h.keys.now.multipliers h.held first) % 2 ^ 128
-    → rest ≡ rest_after (key_of h) h.rest more
-    → with_parts h sum (h.held + length first) rest ≡ after_write h bytes
-first_part h bytes first more k sum rest count front back value behind =
+    → held ≡ min 129 (h.held + length bytes) → rest ≡ rest_after (key_of h) h.rest more
+    → with_parts h sum held rest ≡ after_write h bytes
+first_part h bytes first more k sum held rest count front back value counted behind =
     let room = 128 - h.held in
     let m : k ≡ min room (length bytes) = omega (arith, count) in
     let front_is : first ≡ take room bytes = front ∙ ap (λ n. take n bytes) m ∙ take_min room bytes in
     let back_is : more ≡ drop room bytes = back ∙ ap (λ n. drop n bytes) m ∙ drop_min room bytes in
-    same_parts h sum ((h.sum + share h.keys.now.multipliers h.held (take room bytes)) % 2 ^ 128) (h.held + length first) (h.held + length (take room bytes))
+    same_parts h sum ((h.sum + share h.keys.now.multipliers h.held (take room bytes)) % 2 ^ 128) held (min 129 (h.held + length bytes))
     rest (rest_after (key_of h) h.rest (drop room bytes))
-    (value ∙ ap (λ xs. (h.sum + share h.keys.now.multipliers h.held xs) % 2 ^ 128) front_is) (ap (λ xs. h.held + length xs) front_is)
+    (value ∙ ap (λ xs. (h.sum + share h.keys.now.multipliers h.held xs) % 2 ^ 128) front_is) counted
     (behind ∙ ap (rest_after (key_of h) h.rest) back_is)
 
 -- bytes for none of which there is room
-pub no_part : (h : MapHasher) (bytes : List ℕ) (rest : Option Position) → 128 ≤ h.held → h.sum < 2 ^ 128 → rest ≡ rest_after (key_of h) h.rest bytes
-    → with_parts h h.sum h.held rest ≡ after_write h bytes
-no_part h bytes rest full within behind =
-    let none : 128 - h.held ≡ 0 = omega (arith, full) in
-    let front_is : [] ≡ take (128 - h.held) bytes = ap (λ n. take n bytes) (sym none) in
-    let nothing = ap (share h.keys.now.multipliers h.held) (sym front_is) ∙ nothing_more h.keys.now.multipliers h.held in
-    same_parts h h.sum ((h.sum + share h.keys.now.multipliers h.held (take (128 - h.held) bytes)) % 2 ^ 128) h.held
-    (h.held + length (take (128 - h.held) bytes)) rest (rest_after (key_of h) h.rest (drop (128 - h.held) bytes))
-    (omega (arith, within, nothing)) (omega (arith, ap length front_is)) (behind ∙ ap (λ n. rest_after (key_of h) h.rest (drop n bytes)) (sym none))
+pub no_part : (h : MapHasher) (bytes : List ℕ) (held : ℕ) (rest : Option Position) → 128 ≤ h.held → h.sum < 2 ^ 128
+    → held ≡ min 129 (h.held + length bytes) → rest ≡ rest_after (key_of h) h.rest bytes
+    → with_parts h h.sum held rest ≡ after_write h bytes
+no_part h bytes held rest full within counted behind =
+    let none : 0 ≡ min (length bytes) (128 - h.held) = omega (arith, full) in
+    let nothing = nothing_more h.keys.now.multipliers h.held in
+    first_part h bytes [] bytes 0 h.sum held rest none refl refl (omega (arith, within, nothing)) counted behind
 
 -- bytes for all of which there is room
 pub all_part : (h : MapHasher) (bytes : List ℕ) (sum k : ℕ) → h.held + k ≤ 128 → length bytes ≡ k
@@ -170,11 +192,9 @@ pub all_part : (h : MapHasher) (bytes : List ℕ) (sum k : ℕ) → h.held + k �
     → with_parts h sum (h.held + k) h.rest ≡ after_write h bytes
 all_part h bytes sum k room long value =
     let few : length bytes ≤ 128 - h.held = omega (arith, room, long) in
-    let front_is : bytes ≡ take (length bytes) bytes = sym (take-length bytes) in
     let back_is : drop (length bytes) bytes ≡ [] = nil_from_length (drop (length bytes) bytes) (omega (arith, length-drop (length bytes) bytes)) in
-    ap (λ n. with_parts h sum (h.held + n) h.rest) (sym long)
-    ∙ first_part h bytes bytes (drop (length bytes) bytes) (length bytes) sum h.rest (omega (arith, few)) front_is refl value
-    (sym (rest_same (key_of h) h.rest) ∙ ap (rest_after (key_of h) h.rest) (sym back_is))
+    first_part h bytes bytes (drop (length bytes) bytes) (length bytes) sum (h.held + k) h.rest (omega (arith, few)) (sym (take-length bytes)) refl value
+    (omega (arith, room, long)) (sym (rest_same (key_of h) h.rest) ∙ ap (rest_after (key_of h) h.rest) (sym back_is))
 
 -- ---- a number's bytes
 
@@ -240,11 +260,10 @@ spill_part h number count sum room over short within value =
     let high : number / 2 ^ (64 - 8 * o) ≡ le more =
     ap₂ (λ n b. n / 2 ^ b) (whole ∙ add_comm (le first) (le more * 2 ^ (8 * k))) bits ∙ shr_high (le more) (8 * k) (le first) below in
     let s = (h.sum + slice_index t (h.held / 8) * (le first * 2 ^ (8 * o) % 2 ^ 64)) % 2 ^ 128 in
-    let next : (h.held + k) / 8 ≡ h.held / 8 + 1 = omega arith in
+    let next : 8 * (h.held / 8 + 1) ≡ h.held + k = omega arith in
     let few : length more ≤ 8 = omega (arith, length-drop k bytes, long, short) in
     let second : (s + slice_index t (h.held / 8 + 1) * le more) % 2 ^ 128 ≡ (s + share t (h.held + k) more) % 2 ^ 128 =
-    ap (λ j. (s + slice_index t j * le more) % 2 ^ 128) (sym next)
-    ∙ word_last t s (h.held + k) (le more) more refl (omega arith) few in
+    word_last t s (h.held / 8 + 1) (le more) more refl few ∙ ap (λ a. (s + share t a more) % 2 ^ 128) next in
     all_part h bytes sum count room long
     (value
     ∙ ap₂ (λ x y. ((h.sum + slice_index t (h.held / 8) * x) % 2 ^ 128 + slice_index t (h.held / 8 + 1) * y) % 2 ^ 128) low high
@@ -279,19 +298,32 @@ back r text piece = elim (cases_lt r (length text)) [
       ∙ ap₂ (λ (l m : List ℕ). l ++ drop (r - length m) piece) (sym (drop_of_length-le text few)) (sym whole)
 ]
 
+-- what the second of two writes adds
+seam : (t a b : List ℕ) (held : ℕ) → let r = 128 - held in
+    share t (min 129 (held + length a)) (take (128 - min 129 (held + length a)) b) ≡ share t (held + length (take r a)) (take (r - length (take r a)) b)
+seam t a b held =
+    let first = length-take (128 - held) a in
+    let m = min 129 (held + length a) in
+    let room : 128 - m ≡ 128 - held - length (take (128 - held) a) = omega (arith, first) in
+    elim (cases_lt 128 (held + length a)) [
+      | inr few ↦ ap₂ (λ k n. share t k (take n b)) (let e : m ≡ held + length (take (128 - held) a) = omega (arith, few, first) in e) room
+      | inl many ↦
+          let none : 128 - m ≡ 0 = omega (arith, many) in
+          ap (λ n. share t m (take n b)) none ∙ nothing_more t m ∙ sym (nothing_more t (held + length (take (128 - held) a)))
+          ∙ ap (λ n. share t (held + length (take (128 - held) a)) (take n b)) (sym none ∙ room)
+    ]
+
 pub two_writes : (h : MapHasher) (a b : List ℕ) → after_write (after_write h a) b ≡ after_write h (a ++ b)
 two_writes h a b =
     let t = h.keys.now.multipliers in
     let r = 128 - h.held in
     let first = take r a in
-    let r2 = 128 - (h.held + length first) in
-    let room : r2 ≡ r - length first = omega arith in
-    let joined : take r (a ++ b) ≡ first ++ take r2 b = front r a b ∙ ap (λ k. first ++ take k b) (sym room) in
-    let others : drop r (a ++ b) ≡ drop r a ++ drop r2 b = back r a b ∙ ap (λ k. drop r a ++ drop k b) (sym room) in
-    let split = ap (share t h.held) joined ∙ share-append t h.held first (take r2 b) in
-    same_parts h (((h.sum + share t h.held first) % 2 ^ 128 + share t (h.held + length first) (take r2 b)) % 2 ^ 128)
-    ((h.sum + share t h.held (take r (a ++ b))) % 2 ^ 128)
-    (h.held + length first + length (take r2 b)) (h.held + length (take r (a ++ b)))
-    (rest_after (key_of h) (rest_after (key_of h) h.rest (drop r a)) (drop r2 b)) (rest_after (key_of h) h.rest (drop r (a ++ b)))
-    (omega (arith, split)) (omega (arith, ap length joined ∙ length-append first (take r2 b)))
-    (rest_joined (key_of h) h.rest (drop r a) (drop r2 b) ∙ ap (rest_after (key_of h) h.rest) (sym others))
+    let m = min 129 (h.held + length a) in
+    let room : 128 - m ≡ r - length first = omega (arith, length-take r a) in
+    let split = ap (share t h.held) (front r a b) ∙ share-append t h.held first (take (r - length first) b) in
+    same_parts h (((h.sum + share t h.held first) % 2 ^ 128 + share t m (take (128 - m) b)) % 2 ^ 128)
+    ((h.sum + share t h.held (take r (a ++ b))) % 2 ^ 128) (min 129 (m + length b)) (min 129 (h.held + length (a ++ b)))
+    (rest_after (key_of h) (rest_after (key_of h) h.rest (drop r a)) (drop (128 - m) b)) (rest_after (key_of h) h.rest (drop r (a ++ b)))
+    (omega (arith, split, seam t a b h.held)) (omega (arith, length-append a b))
+    (rest_joined (key_of h) h.rest (drop r a) (drop (128 - m) b)
+    ∙ ap (rest_after (key_of h) h.rest) (sym (back r a b ∙ ap (λ k. drop r a ++ drop k b) (sym room))))

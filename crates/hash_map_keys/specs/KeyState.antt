@@ -1,5 +1,5 @@
 -- Where a MapHasher stands.
-use Rattle.std.specs.Prelude.{ℕ, suc, ◌+◌, ◌-◌, ◌*◌, ◌/◌, ◌^◌, ◌%◌, List, [], ◌∷◌, length, take, drop, slice_index}
+use Rattle.std.specs.Prelude.{ℕ, suc, ◌+◌, ◌-◌, ◌*◌, ◌/◌, ◌^◌, ◌%◌, List, [], ◌∷◌, length, take, drop, min, nat_lt, if◌then◌else◌, slice_index}
 use Rattle.std.specs.Borrow.{Bor}
 use Rattle.std.specs.declared.option.Option.{Option}
 use Rattle.std.specs.declared.option.Option.TheVariants.{None, Some}
@@ -24,14 +24,13 @@ rest_after text_key (Some at) (byte ∷ bytes) = Some (after at (byte ∷ bytes)
 abbrev pub fresh_at : Bor MapKeys → MapHasher
 fresh_at keys = record { keys = keys; sum = keys.now.addend; held = 0; rest = None }
 
--- after bytes more
+-- after bytes more, which are counted up to 129
 abbrev pub after_write : MapHasher → List ℕ → MapHasher
 after_write h bytes =
     (let room = 128 - h.held in
-    let first = take room bytes in
     record h {
-      sum = (h.sum + share h.keys.now.multipliers h.held first) % 2 ^ 128;
-      held = h.held + length first;
+      sum = (h.sum + share h.keys.now.multipliers h.held (take room bytes)) % 2 ^ 128;
+      held = min 129 (h.held + length bytes);
       rest = rest_after h.keys.now.text_key h.rest (drop room bytes);
     })
 
@@ -42,4 +41,5 @@ word_of (Some at) = as_word (poly_end at)
 
 -- the answer
 abbrev pub answer_of : MapHasher → ℕ
-answer_of h = (h.sum + slice_index h.keys.now.multipliers 16 * word_of h.rest) % 2 ^ 128 / 2 ^ 64
+answer_of h =
+    (h.sum + slice_index h.keys.now.multipliers 16 * (if nat_lt 128 h.held then word_of h.rest else 0)) % 2 ^ 128 / 2 ^ 64

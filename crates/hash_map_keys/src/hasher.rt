@@ -1,24 +1,24 @@
 //! The hasher of a key of a map: each word of its first 128 bytes times a multiplier of its own, and the hash `poly61` of the
 //! bytes after them times one more, added up; the answer is the high half.
 ghost use Rattle.std.specs.Prelude.{◌≡◌, ◌≢◌, ◌+◌, ◌-◌, ◌*◌, ◌/◌, ◌^◌, ◌%◌, ◌<◌, ◌≤◌, [], length, slice_index};
-ghost use Rattle.hash_keyed.specs.Poly61State.{after, as_word, poly_end};
+ghost use Rattle.hash_keyed.specs.Poly61State.{after};
 ghost use Rattle.std.specs.Hash.{le_bytes};
 ghost use Rattle.hash_keyed.specs.Poly61.{prime61};
 ghost use Rattle.hash_map_keys.specs.MapKeys.{map_hash};
 ghost use Rattle.hash_map_keys.specs.KeyState.{after_write, answer_of, rest_after, share};
 
 use crate::keys::MapKeys;
-use crate::words::number_of;
+use crate::words::{number_of, number_of_last};
 use hash_keyed::poly61::Poly61Hasher;
 use hashers::rounds::le64;
 use std::hash::{BuildHasher, Hasher};
 
-/// The hash of a key of a map, over its bytes in any parts.
+/// The hash of a key of a map, over its bytes in any parts. It counts them up to 129.
 #[derive(Drop)]
 pub struct MapHasher<'a> {
     pub(crate) keys: &'a MapKeys,
     pub(crate) sum: u128,
-    pub(crate) held: u8,
+    pub(crate) held: usize,
     pub(crate) rest: Option<Poly61Hasher>,
 }
 
@@ -30,8 +30,16 @@ fn with_word(sum: u128, multiplier: u128, word: u64) -> u128
     sum.wrapping_add(multiplier.wrapping_mul(u128::from(word)))
 }
 
+/// The high half of a sum.
+#[inline(always)]
+fn high(sum: u128) -> u64
+    ensures { result ≡ sum / 2 ^ 64 }
+{
+    (sum >> 64) as u64
+}
+
 /// A sum with the bytes after those that are held: each goes into its word.
-fn behind(multipliers: &[u128; 17], start: u128, held: u8, bytes: &[u8]) -> u128
+fn behind(multipliers: &[u128; 17], start: u128, held: usize, bytes: &[u8]) -> u128
     requires { held + length bytes.now ≤ 128 }
     ensures { result ≡ (start + share multipliers.now held bytes.now) % 2 ^ 128 }
 {
@@ -39,54 +47,74 @@ fn behind(multipliers: &[u128; 17], start: u128, held: u8, bytes: &[u8]) -> u128
     let mut at = held;
     let mut rest = bytes;
     while !rest.is_empty() {
-        let count = rest.len().min(8 - usize::from(at % 8));
+        let count = rest.len().min(8 - at % 8);
         let (first, more) = rest.split_at(count);
-        let number = number_of(first) << (8 * u32::from(at % 8));
-        sum = with_word(sum, multipliers[usize::from(at / 8)], number);
-        at += count as u8;
+        let number = number_of(first) << (8 * (at % 8) as u32);
+        sum = with_word(sum, multipliers[at / 8], number);
+        at += count;
         rest = more;
     }
     sum
 }
 
-/// The same, by whole words where the first byte begins one.
+/// The same of eight bytes or more, by whole words, after so many of these.
 #[inline(always)]
-fn by_words(multipliers: &[u128; 17], start: u128, held: u8, bytes: &[u8]) -> u128
-    requires first { held % 8 ≡ 0 }
-    requires room { held + length bytes.now ≤ 128 }
-    ensures { result ≡ (start + share multipliers.now held bytes.now) % 2 ^ 128 }
+fn by_words(multipliers: &[u128; 17], start: u128, words: usize, bytes: &[u8]) -> u128
+    requires some { 8 ≤ length bytes.now }
+    requires room { 8 * words + length bytes.now ≤ 128 }
+    ensures { result ≡ (start + share multipliers.now (8 * words) bytes.now) % 2 ^ 128 }
 {
     let mut sum = start;
-    let mut at = held;
+    let mut at = words;
     let mut rest = bytes;
     while let Some((word, more)) = rest.split_first_chunk::<8>() {
-        sum = with_word(sum, multipliers[usize::from(at / 8)], le64(word));
-        at += 8;
+        sum = with_word(sum, multipliers[at], le64(word));
+        at += 1;
         rest = more;
     }
     if rest.is_empty() {
         sum
     } else {
-        with_word(sum, multipliers[usize::from(at / 8)], number_of(rest))
+        with_word(sum, multipliers[at], number_of_last(bytes, rest.len()))
     }
 }
 
 /// The same after bytes that are held.
 #[inline(never)]
-fn later(multipliers: &[u128; 17], start: u128, held: u8, bytes: &[u8]) -> u128
+fn later(multipliers: &[u128; 17], start: u128, held: usize, bytes: &[u8]) -> u128
     requires { held + length bytes.now ≤ 128 }
     ensures { result ≡ (start + share multipliers.now held bytes.now) % 2 ^ 128 }
 {
-    if held % 8 == 0 {
-        by_words(multipliers, start, held, bytes)
+    if held % 8 == 0 && bytes.len() >= 8 {
+        by_words(multipliers, start, held / 8, bytes)
     } else {
         behind(multipliers, start, held, bytes)
     }
 }
 
+/// The same of more than eight bytes after the first word.
+#[inline(never)]
+fn from_second(multipliers: &[u128; 17], start: u128, bytes: &[u8]) -> u128
+    requires many { 8 < length bytes.now }
+    requires room { length bytes.now ≤ 120 }
+    ensures { result ≡ (start + share multipliers.now 8 bytes.now) % 2 ^ 128 }
+{
+    match bytes.split_first_chunk::<8>() {
+        None => start,
+        Some((second, more)) => {
+            let sum = with_word(start, multipliers[1], le64(second));
+            if more.len() <= 8 {
+                with_word(sum, multipliers[2], number_of_last(bytes, more.len()))
+            } else {
+                by_words(multipliers, sum, 2, more)
+            }
+        }
+    }
+}
+
 /// The same, the first two words by themselves where there are no bytes before them, as there are none before a string.
 #[inline(never)]
-fn within(multipliers: &[u128; 17], start: u128, held: u8, bytes: &[u8]) -> u128
+fn within(multipliers: &[u128; 17], start: u128, held: usize, bytes: &[u8]) -> u128
     requires { held + length bytes.now ≤ 128 }
     ensures { result ≡ (start + share multipliers.now held bytes.now) % 2 ^ 128 }
 {
@@ -97,14 +125,12 @@ fn within(multipliers: &[u128; 17], start: u128, held: u8, bytes: &[u8]) -> u128
         None => with_word(start, multipliers[0], number_of(bytes)),
         Some((first, more)) => {
             let sum = with_word(start, multipliers[0], le64(first));
-            match more.split_first_chunk::<8>() {
-                None => with_word(sum, multipliers[1], number_of(more)),
-                Some((second, rest)) => by_words(
-                    multipliers,
-                    with_word(sum, multipliers[1], le64(second)),
-                    16,
-                    rest,
-                ),
+            if more.is_empty() {
+                sum
+            } else if more.len() <= 8 {
+                with_word(sum, multipliers[1], number_of_last(bytes, more.len()))
+            } else {
+                from_second(multipliers, sum, more)
             }
         }
     }
@@ -135,22 +161,29 @@ fn behind_all(text_key: u64, rest: &mut Option<Poly61Hasher>, bytes: &[u8])
     }
 }
 
-impl MapHasher<'_> {
-    // Bytes of which some may be after the first 128, or in two words. It stands apart, so that what a map does with short
-    // keys stays short.
+// The answer where there were more than 128 bytes: the word is that of those after them.
+#[inline(never)]
+fn ended(keys: &MapKeys, sum: u128, word: u64) -> u64
+    ensures { result ≡ (sum + slice_index keys.now.multipliers 16 * word) % 2 ^ 128 / 2 ^ 64 }
+{
+    high(with_word(sum, keys.multipliers[16], word))
+}
+
+impl<'a> MapHasher<'a> {
+    // Bytes of which some may be after the first 128. It stands apart, so that what a map does with short keys stays short.
     #[inline(never)]
     fn past(&mut self, bytes: &[u8])
         ensures { self.new ≡ after_write self.old bytes.now }
     {
+        let held = self.held.saturating_add(bytes.len()).min(129);
         let _sum = self.sum;
         let mut more = bytes;
         if self.held < 128 {
-            let room = 128 - usize::from(self.held);
-            let (first, behind) = bytes.split_at(bytes.len().min(room));
+            let (first, behind) = bytes.split_at(bytes.len().min(128 - self.held));
             self.sum = within(&self.keys.multipliers, self.sum, self.held, first);
-            self.held += first.len() as u8;
             more = behind;
         }
+        self.held = held;
         if !more.is_empty() {
             behind_all(self.keys.text_key, &mut self.rest, more);
         }
@@ -158,7 +191,7 @@ impl MapHasher<'_> {
 
     // A number of so many bytes in two words, or after the first 128.
     #[inline(never)]
-    fn beyond(&mut self, number: u64, count: u8)
+    fn beyond(&mut self, number: u64, count: usize)
         requires some { 1 ≤ count }
         requires short { count ≤ 8 }
         requires within { number < 2 ^ (8 * count) }
@@ -166,45 +199,46 @@ impl MapHasher<'_> {
     {
         let place = self.held % 8;
         if self.held <= 128 - count && place + count > 8 {
-            let at = usize::from(self.held / 8);
-            let bits = 8 * u32::from(place);
+            let at = self.held / 8;
+            let bits = 8 * place as u32;
             let sum = with_word(self.sum, self.keys.multipliers[at], number << bits);
             self.sum = with_word(sum, self.keys.multipliers[at + 1], number >> (64 - bits));
             self.held += count;
         } else {
-            self.past(&number.to_le_bytes()[..usize::from(count)]);
+            self.past(&number.to_le_bytes()[..count]);
+        }
+    }
+
+    // The hasher itself, for a call that stands apart: that takes the address of this one, so the other can stay in registers.
+    #[inline(always)]
+    fn moved(&mut self) -> MapHasher<'a>
+        ensures { result ≡ self.old }
+    {
+        MapHasher {
+            keys: self.keys,
+            sum: self.sum,
+            held: self.held,
+            rest: self.rest.take(),
         }
     }
 
     // A number of so many bytes.
     #[inline(always)]
-    fn number(&mut self, number: u64, count: u8)
+    fn number(&mut self, number: u64, count: usize)
         requires some { 1 ≤ count }
         requires short { count ≤ 8 }
         requires within { number < 2 ^ (8 * count) }
         ensures { self.new ≡ after_write self.old (le_bytes count number) }
     {
         if self.held < 128 && self.held % 8 + count <= 8 {
-            let place = number << (8 * u32::from(self.held % 8));
-            self.sum = with_word(
-                self.sum,
-                self.keys.multipliers[usize::from(self.held / 8)],
-                place,
-            );
+            let place = number << (8 * (self.held % 8) as u32);
+            self.sum = with_word(self.sum, self.keys.multipliers[self.held / 8], place);
             self.held += count;
         } else {
-            self.beyond(number, count);
+            let mut moved = self.moved();
+            moved.beyond(number, count);
+            *self = moved;
         }
-    }
-
-    // The answer where there were more than 128 bytes.
-    #[inline(never)]
-    fn ended(&self, text: &Poly61Hasher) -> u64
-        ensures { result
-            ≡ (self.now.sum + slice_index self.now.keys.now.multipliers 16 * as_word (poly_end text.now))
-            % 2 ^ 128 / 2 ^ 64 }
-    {
-        (with_word(self.sum, self.keys.multipliers[16], text.finish()) >> 64) as u64
     }
 }
 
@@ -216,19 +250,24 @@ impl Hasher for MapHasher<'_> {
     #[inline(always)]
     fn finish(&self) -> u64 {
         let sum = self.sum;
+        if self.held <= 128 {
+            return high(sum);
+        }
         match &self.rest {
-            None => (sum >> 64) as u64,
-            Some(text) => self.ended(text),
+            None => high(sum),
+            Some(text) => ended(self.keys, sum, text.finish()),
         }
     }
 
     #[inline(always)]
     fn write(&mut self, bytes: &[u8]) {
-        if usize::from(self.held) + bytes.len() > 128 {
-            self.past(bytes);
-        } else {
+        if bytes.len() < 128_usize.saturating_sub(self.held) {
             self.sum = within(&self.keys.multipliers, self.sum, self.held, bytes);
-            self.held += bytes.len() as u8;
+            self.held += bytes.len();
+        } else {
+            let mut moved = self.moved();
+            moved.past(bytes);
+            *self = moved;
         }
     }
 

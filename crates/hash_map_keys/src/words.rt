@@ -1,8 +1,8 @@
 //! The numbers that few bytes are.
-ghost use Rattle.std.specs.Prelude.{◌≡◌, ◌*◌, ◌^◌, ◌<◌, ◌≤◌, length};
+ghost use Rattle.std.specs.Prelude.{◌≡◌, ◌-◌, ◌*◌, ◌^◌, ◌<◌, ◌≤◌, drop, length};
 ghost use Rattle.hashers.specs.Words.{le};
 
-use hashers::rounds::le_four;
+use hashers::rounds::{le_four, le64};
 
 /// The number that fewer than four bytes are, the first the lowest.
 #[inline(always)]
@@ -32,5 +32,19 @@ pub(crate) fn number_of(bytes: &[u8]) -> u64
             u64::from(le_four(first)) + (behind << 32)
         }
         _ => few_of(bytes),
+    }
+}
+
+/// The number that the last bytes are, so many of eight or more.
+#[inline(always)]
+pub(crate) fn number_of_last(bytes: &[u8], count: usize) -> u64
+    requires long { 8 ≤ length bytes.now }
+    requires some { 1 ≤ count }
+    requires few { count ≤ 8 }
+    ensures { result ≡ le (drop (length bytes.now - count) bytes.now) }
+{
+    match bytes.last_chunk::<8>() {
+        None => 0,
+        Some(last) => le64(last) >> (64 - 8 * count as u32),
     }
 }

@@ -3,7 +3,7 @@
 // What follows is the proved text of crates/hash_map_keys/src/words.rt without its contracts.
 use crate::hashers;
 
-use hashers::rounds::le_four;
+use hashers::rounds::{le_four, le64};
 
 /// The number that fewer than four bytes are, the first the lowest.
 ///
@@ -51,5 +51,28 @@ pub(crate) fn number_of(bytes: &[u8]) -> u64 {
             u64::from(le_four(first)) + (behind << 32)
         }
         _ => few_of(bytes),
+    }
+}
+
+/// The number that the last bytes are, so many of eight or more.
+///
+/// The caller has to see to it that:
+///
+/// ```text
+/// long: 8 ≤ length bytes.now
+/// some: 1 ≤ count
+/// few: count ≤ 8
+/// ```
+///
+/// Proved:
+///
+/// ```text
+/// result ≡ le (drop (length bytes.now - count) bytes.now)
+/// ```
+#[inline(always)]
+pub(crate) fn number_of_last(bytes: &[u8], count: usize) -> u64 {
+    match bytes.last_chunk::<8>() {
+        None => 0,
+        Some(last) => le64(last) >> (64 - 8 * count as u32),
     }
 }

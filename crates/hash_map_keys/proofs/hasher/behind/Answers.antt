@@ -8,13 +8,11 @@ loop-rest-preserved c =
     let rest = c.loop-rest.rest.now in
     let at = c.loop-rest.at in
     let k = c.min-count.result in
-    let few : (k ≤ length rest) × (at % 8 + k ≤ 8) = omega (arith, c.min-count.ensures, c.from.ensures) in
+    let few : (k ≤ length rest) × (at % 8 + k ≤ 8) = omega (arith, c.min-count.ensures) in
     let value : c.number_of.result ≡ le (take k rest) = c.number_of.ensures.value ∙ ap le c.split_at.ensures.front in
     let sum : c.with_word-sum.result
     ≡ (c.loop-rest.sum + slice_index t (at / 8) * (c.number_of.result * 2 ^ (8 * (at % 8)) % 2 ^ 64)) % 2 ^ 128 =
-    c.with_word-sum.ensures
-    ∙ ap₂ (λ j o. (c.loop-rest.sum + slice_index t j * (c.number_of.result * 2 ^ (8 * o) % 2 ^ 64)) % 2 ^ 128) c.from-in-loop-rest-2.ensures
-    c.from-in-loop-rest.ensures in
+    c.with_word-sum.ensures in
     record {
       are = rw c.split_at.ensures.back (All-drop IsByte k rest c.loop-rest.invariant.are);
       small = c.with_word-sum.type_inv;

@@ -1,4 +1,4 @@
-use Rattle.hash_map_keys.proofs.Common.{after_write, ap, ap₂, arith, slice_index, take, ◌%◌, ◌*◌, ◌+◌, ◌-◌, ◌/◌, ◌^◌, ◌∙◌, ◌≤◌}
+use Rattle.hash_map_keys.proofs.Common.{after_write, ap, arith, slice_index, take, ◌%◌, ◌*◌, ◌+◌, ◌-◌, ◌/◌, ◌^◌, ◌∙◌, ◌≤◌}
 use Rattle.hash_map_keys.proofs.Shares.{begins, spill_part}
 use Rattle.hash_map_keys.proofs.hasher.MapHasher.beyond.Goals as goal
 
@@ -11,12 +11,9 @@ returns-then-place-count-gt8 c =
     let room : h.held + count ≤ 128 = omega (arith, c.if-self-count.true, c.requires.short) in
     spill_part h n count c.with_word-self.result room c.if-place-count-gt8.true c.requires.short c.requires.within
     (c.with_word-self.ensures
-    ∙ ap₂ (λ s b. (s + slice_index t (c.from-at.result + 1) * (n / 2 ^ (64 - 8 * b))) % 2 ^ 128) c.with_word-sum.ensures c.from-bits.ensures
-    ∙ ap₂ (λ j b. ((h.sum + slice_index t j * (n * 2 ^ (8 * b) % 2 ^ 64)) % 2 ^ 128 + slice_index t (j + 1) * (n / 2 ^ (64 - 8 * (h.held % 8)))) % 2 ^ 128)
-    c.from-at.ensures c.from-bits.ensures)
+    ∙ ap (λ s. (s + slice_index t (h.held / 8 + 1) * (n / 2 ^ (64 - 8 * (h.held % 8)))) % 2 ^ 128) c.with_word-sum.ensures)
 
 pub returns-else-self-count : goal.returns-else-self-count
 returns-else-self-count c =
-    c.past.ensures
-    ∙ ap₂ (λ k bytes. after_write c.args.self.now (take k bytes)) c.from.ensures c.to_le_bytes.ensures
+    c.past.ensures ∙ ap (λ bytes. after_write c.args.self.now (take c.args.count bytes)) c.to_le_bytes.ensures
     ∙ ap (after_write c.args.self.now) (begins c.args.count c.args.number c.requires.short c.requires.within)

@@ -1,4 +1,3 @@
-use Rattle.hash_map_keys.proofs.Common.{ap₂, slice_index, ◌%◌, ◌*◌, ◌+◌, ◌^◌, ◌∙◌}
 use Rattle.hash_map_keys.proofs.Shares.{number_part}
 use Rattle.hash_map_keys.proofs.hasher.MapHasher.number.Goals as goal
 
@@ -7,6 +6,4 @@ returns-then-self-count-le8 c =
     let h = c.args.self.now in
     let n = c.args.number in
     number_part h n c.args.count c.with_word-self.result c.if-self-lt128.true c.if-self-count-le8.true c.requires.within
-    (c.with_word-self.ensures
-    ∙ ap₂ (λ j o. (h.sum + slice_index h.keys.now.multipliers j * (n * 2 ^ (8 * o) % 2 ^ 64)) % 2 ^ 128) c.from-then-self-count-le8.ensures
-    c.from.ensures)
+    c.with_word-self.ensures
