@@ -4,7 +4,7 @@
 RUST_CRATES = {
     "hashers-proved": [
         "hash_words", "hash_rounds", "hash_laws", "hash_writes", "hash_fx", "hash_jenkins", "hash_blocks", "hash_xxh3", "hash_bytes",
-        "hash_more", "hash_theorems", "hashers", "hash_keyed", "hash_numbers", "hash_map_keys", "hash_names", "hash_kinds",
+        "hash_more", "hash_theorems", "hashers", "hash_keyed", "hash_map_keys", "hash_names", "hash_kinds",
         "streams", "text_set", "hash_lines", "hash_buckets", "hash_ring", "hash_cuts", "hash_bloom",
     ],
     "hashers-tools": [
@@ -31,8 +31,7 @@ PARTS = {
             "siphash", "siphash/hasher", "siphash/rounds", "xxhash", "xxhash/at_32", "xxhash/at_64",
         },
         "hash_keyed": {"modular", "pair", "parts", "poly61", "words"},
-        "hash_numbers": {"number"},
-        "hash_map_keys": {"hasher", "words", "xxh3_pieces"},
+        "hash_map_keys": {"hasher", "numbers", "words", "xxh3_pieces"},
         "hash_names": {"reading", "table", "task"},
         "hash_kinds": {"reading", "table", "wide"},
         "streams": {"failure", "hex", "tries"},

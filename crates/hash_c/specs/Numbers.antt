@@ -1,7 +1,7 @@
 -- Numbers under a key in halves.
 use Rattle.std.specs.Prelude.{ℕ, ◌≡◌, ◌<◌, List, length, slice_index}
 use Rattle.hash_kinds.specs.Wide.{both}
-use Rattle.hash_numbers.specs.Numbers.{number_hash}
+use Rattle.hash_map_keys.specs.Numbers.{number_hash}
 use Rattle.hash_c.specs.declared.numbers.NumberKey.{NumberKey}
 
 -- the hash at the key

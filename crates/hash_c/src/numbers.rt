@@ -8,7 +8,7 @@ ghost use Rattle.hash_map_keys.specs.MapKeys.{map_hash, wide, wides};
 use hash_kinds::wide::both;
 use hash_map_keys::hasher::map_hash;
 use hash_map_keys::keys::MapKeys;
-use hash_numbers::number::number_hash;
+use hash_map_keys::numbers::number_hash;
 
 /// A multiplier and an addend of 128 bits, each in two halves.
 #[repr(C)]

@@ -1,4 +1,12 @@
 pub mod Common
+pub mod Odds
+pub mod Counting
+pub mod Multipliers
+pub mod Evenness
+pub mod WordHashes
+pub mod FromEvenness
+pub mod Meetings
+pub mod KeyLaws
 pub mod Fours
 pub mod Shares
 pub mod Dots

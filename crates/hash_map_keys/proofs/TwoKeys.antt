@@ -1,6 +1,12 @@
 -- Two keys of a map have one hash at few keys of the hash.
-use Rattle.hash_map_keys.proofs.Common.{ℕ, All, All-drop, All-filter, All-take, AllPairs, AllPairs-filter, AreKeys, AreMapKeys, AreTables, AreWords, Bool, IsByte, IsText, List, NeitherBegins, [], ap, ap₂, arith, both_true, cases_lt, count, count_by, digits, digits_in, digits_tell, drop, drop-append_seam, drop_of_length-le, eights, eq-eqb, eqb-true, false, false≢true, few_but_those, few_keys_meet, few_share, filter, filter_passes, get_or, having, inl, inr, key_words, last_word, le, le-append, le-begins, length, length-drop, length-filter, length-take, length-take-le, map_hash, max, min, mul-add-lt, mul-le, nat_eq, poly61, prime61, refl, same_by_places, share_both, subst, suc, sym, take, take-add, take-append-drop, take-append_seam, take-length, take-take, take_all, those, those_below, those_differ, those_marked, true, true≢false, word_count, words_hash, zero, ◌%◌, ◌&&◌, ◌*◌, ◌++◌, ◌+◌, ◌-◌, ◌/◌, ◌<◌, ◌^◌, ◌∙◌, ◌∷◌, ◌≡◌, ◌≢◌, ◌≤◌}
-use Rattle.hash_numbers.proofs.Words as words
+use Rattle.hash_map_keys.proofs.Common.{ℕ, All, All-drop, All-filter, All-take, AllPairs, AllPairs-filter, AreKeys, AreMapKeys, AreTables, AreWords, Bool, IsByte, IsText, List, NeitherBegins, [], ap, ap₂, arith, both_true, cases_lt, count_by, drop, drop-append_seam, drop_of_length-le, eights, eq-eqb, eqb-true, false, false≢true, few_keys_meet, filter, filter_passes, get_or, inl, inr, key_words, last_word, le, le-append, le-begins, length, length-drop, length-filter, length-take, length-take-le, map_hash, max, min, mul-add-lt, mul-le, nat_eq, poly61, prime61, refl, subst, suc, sym, take, take-add, take-append-drop, take-append_seam, take-length, take-take, take_all, true, true≢false, word_count, words_hash, zero, ◌%◌, ◌&&◌, ◌*◌, ◌++◌, ◌+◌, ◌-◌, ◌/◌, ◌<◌, ◌^◌, ◌∙◌, ◌∷◌, ◌≡◌, ◌≢◌, ◌≤◌}
+use Rattle.hash_map_keys.proofs.Counting.{count, few_but_those, those, those_below, those_differ, those_marked}
+use Rattle.hash_map_keys.proofs.Counting.{having}
+use Rattle.hash_map_keys.proofs.FromEvenness.{share_both}
+use Rattle.hash_map_keys.proofs.KeyLaws.{few_share}
+use Rattle.hash_map_keys.proofs.Odds.{same_by_places}
+use Rattle.hash_map_keys.proofs.WordHashes.{digits, digits_in, digits_tell}
+use Rattle.hash_map_keys.proofs.WordHashes as words
 use Rattle.hash_map_keys.proofs.Dots.{key_words_are, length-eights}
 
 pub few_meet : (s t : List ℕ) (text_key low high : ℕ) (keys : List (List ℕ × ℕ)) → IsText s → IsText t

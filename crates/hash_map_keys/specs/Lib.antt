@@ -1,3 +1,4 @@
+pub mod Numbers
 pub mod MapKeys
 pub mod KeyState
 pub mod Pieces

@@ -3,7 +3,7 @@ use Rattle.std.specs.Prelude.{ℕ, zero, suc, ◌≡◌, ◌≢◌, ◌<◌, ◌
 use Rattle.hash_keyed.specs.Poly61.{prime61}
 use Rattle.hashers.specs.Words.{le}
 use Rattle.hash_keyed.specs.Poly61State.{poly61}
-use Rattle.hash_numbers.specs.Numbers.{words_hash}
+use Rattle.hash_map_keys.specs.Numbers.{words_hash}
 
 -- so many words of eight bytes, each the number that they are, with zeros behind the last byte
 unfoldable pub eights : ℕ → List ℕ → List ℕ

@@ -8,7 +8,7 @@ ghost use Rattle.std.specs.Hash.{le_bytes};
 ghost use Rattle.std.specs.List.{concat};
 ghost use Rattle.hashers.specs.Text.{IsText};
 ghost use Rattle.hash_keyed.specs.Poly61.{AreKeys, prime61, word_count};
-ghost use Rattle.hash_numbers.specs.Numbers.{AreTables};
+ghost use Rattle.hash_map_keys.specs.Numbers.{AreTables};
 ghost use Rattle.hash_xxh3.specs.Xxh3.{xxh3_64_of};
 ghost use Rattle.hash_map_keys.specs.Pieces.{byte_step, piece_step};
 ghost use Rattle.hash_map_keys.specs.KeyState.{after_write, answer_of, fresh_at};

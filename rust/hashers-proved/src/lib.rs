@@ -103,15 +103,12 @@ pub mod hash_keyed {
     mod words;
 }
 #[doc(hidden)]
-pub mod hash_numbers {
-    pub mod number;
-}
-#[doc(hidden)]
 pub mod hash_map_keys {
     pub mod hasher;
     pub mod keys {
         pub use crate::extras::MapKeys;
     }
+    pub mod numbers;
     mod words;
     pub mod xxh3_pieces;
 }
@@ -428,7 +425,7 @@ pub mod keyed {
 /// known. For maps there is [`map_keys`].
 pub mod numbers {
     #[doc(inline)]
-    pub use crate::hash_numbers::number::*;
+    pub use crate::hash_map_keys::numbers::*;
 }
 
 /// One hasher for all keys of maps that strangers choose: each word of a key's first 128 bytes times a random multiplier of its own, `poly61` of

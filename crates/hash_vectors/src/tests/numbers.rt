@@ -3,7 +3,7 @@ use crate::tests::same;
 use hash_map_keys::hasher::map_hash;
 use hash_map_keys::keys::MapKeys;
 use hash_map_keys::xxh3_pieces::BuildXxh3Pieces;
-use hash_numbers::number::{number_hash, pair_hash};
+use hash_map_keys::numbers::{number_hash, pair_hash};
 use std::hash::{BuildHasher, Hasher};
 use std::io;
 use std::random::RandomSource;

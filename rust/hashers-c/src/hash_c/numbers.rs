@@ -1,12 +1,12 @@
 //! Numbers under a key of the caller's: one, and a column of them; and keys of maps under a key.
 
 // What follows is the proved text of crates/hash_c/src/numbers.rt without its contracts.
-use hashers_proved::{hash_kinds, hash_map_keys, hash_numbers};
+use hashers_proved::{hash_kinds, hash_map_keys};
 
 use hash_kinds::wide::both;
 use hash_map_keys::hasher::map_hash;
 use hash_map_keys::keys::MapKeys;
-use hash_numbers::number::number_hash;
+use hash_map_keys::numbers::number_hash;
 
 /// A multiplier and an addend of 128 bits, each in two halves.
 #[repr(C)]

@@ -1,5 +1,5 @@
 use Rattle.hash_c.proofs.Common.{◌≡◌, ◌<◌, ℕ, slice_index}
-use Rattle.hash_numbers.specs.Numbers.{number_hash}
+use Rattle.hash_map_keys.specs.Numbers.{number_hash}
 use Rattle.hash_c.proofs.numbers.hashers_number_column.Given as goal
 
 -- the hashes before i are written

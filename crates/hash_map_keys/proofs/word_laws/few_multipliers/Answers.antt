@@ -1,5 +1,5 @@
-use Rattle.hash_numbers.proofs.Multipliers.{few_high, few_low}
-use Rattle.hash_numbers.proofs.laws.few_multipliers.Goals as goal
+use Rattle.hash_map_keys.proofs.Multipliers.{few_high, few_low}
+use Rattle.hash_map_keys.proofs.word_laws.few_multipliers.Goals as goal
 
 pub returns-clause-place : goal.returns-clause-place
 returns-clause-place c = few_low

@@ -1,6 +1,6 @@
 //! The hash of a number by multiplying and shifting, at a multiplier and an addend.
 
-// What follows is the proved text of crates/hash_numbers/src/number.rt without its contracts.
+// What follows is the proved text of crates/hash_map_keys/src/numbers.rt without its contracts.
 
 /// The high half of the 128 bits of `multiplier * number + addend`.
 ///

@@ -1,7 +1,7 @@
 -- What follows where each pair of hashes of two keys of a map comes from no more keys than its share: keys of any form.
-use Rattle.hash_numbers.proofs.Common.{ℕ, All, All-filter, All-head, AllPairs, AllPairs-filter, List, [], ap, ap₂, arith, both_true, cond, count_by, div-add-mod, div-div-eq-div-mul, div-eq_of_lt, eq-eqb, eqb-true, eqb_tells, filter, filter_passes, get_or, have_hashes, inl, inr, length, length-filter, mod-lt, mul-add-lt, nat_eq, pow-add, pow_pos, subst, sum_by-same, sym, ◌%◌, ◌&&◌, ◌*◌, ◌+◌, ◌-◌, ◌/◌, ◌<◌, ◌^◌, ◌∙◌, ◌∷◌, ◌≡◌, ◌≢◌, ◌≤◌}
-use Rattle.hash_numbers.proofs.Counting.{few_in_all, having, just_its_share}
-use Rattle.hash_numbers.proofs.Odds.{same_by_places}
+use Rattle.hash_map_keys.proofs.Common.{ℕ, All, All-filter, All-head, AllPairs, AllPairs-filter, List, [], ap, ap₂, arith, both_true, cond, count_by, div-add-mod, div-div-eq-div-mul, div-eq_of_lt, eq-eqb, eqb-true, eqb_tells, filter, filter_passes, get_or, have_hashes, inl, inr, length, length-filter, mod-lt, mul-add-lt, nat_eq, pow-add, pow_pos, subst, sum_by-same, sym, ◌%◌, ◌&&◌, ◌*◌, ◌+◌, ◌-◌, ◌/◌, ◌<◌, ◌^◌, ◌∙◌, ◌∷◌, ◌≡◌, ◌≢◌, ◌≤◌}
+use Rattle.hash_map_keys.proofs.Counting.{few_in_all, having, just_its_share}
+use Rattle.hash_map_keys.proofs.Odds.{same_by_places}
 
 -- two numbers are a number of two places
 as_places : (a b u v : ℕ) → b < 2 ^ 64 → v < 2 ^ 64 → nat_eq (a * 2 ^ 64 + b) (u * 2 ^ 64 + v) ≡ (nat_eq a u && nat_eq b v)

@@ -1,7 +1,7 @@
 -- Each pair of hashes of two sums that differ in a word comes from few keys: the words differ by a power of two times an odd number.
-use Rattle.hash_numbers.proofs.Common.{ℕ, All, AllPairs, List, ap, ap₂, arith, cases_order, div-add-mod, div-eq_of_lt, div-lt_iff_lt-mul, inl, inr, le_of_mul-le-mul_left, length, lit<, mod-lt, mul-add-lt, pow-add, pow_pos, subst, sym, ◌%◌, ◌*◌, ◌+◌, ◌-◌, ◌/◌, ◌<◌, ◌^◌, ◌∙◌, ◌≡◌, ◌≢◌, ◌≤◌}
-use Rattle.hash_numbers.proofs.Counting.{count}
-use Rattle.hash_numbers.proofs.Odds.{parts_of, rest_from, rows, same_by_places, same_in_row}
+use Rattle.hash_map_keys.proofs.Common.{ℕ, All, AllPairs, List, ap, ap₂, arith, cases_order, div-add-mod, div-eq_of_lt, div-lt_iff_lt-mul, inl, inr, le_of_mul-le-mul_left, length, lit<, mod-lt, mul-add-lt, pow-add, pow_pos, subst, sym, ◌%◌, ◌*◌, ◌+◌, ◌-◌, ◌/◌, ◌<◌, ◌^◌, ◌∙◌, ◌≡◌, ◌≢◌, ◌≤◌}
+use Rattle.hash_map_keys.proofs.Counting.{count}
+use Rattle.hash_map_keys.proofs.Odds.{parts_of, rest_from, rows, same_by_places, same_in_row}
 
 -- ---- remainders
 

@@ -1,11 +1,11 @@
 -- The laws of two different lists of n words, at n multipliers and an addend.
-use Rattle.hash_numbers.proofs.Common.{ℕ, ap, All, AllPairs, AreTables, AreWords, List, [], ap₂, arith, cond, count_by, dot, have_hashes, le_of_mul-le-mul_left, length, meetings, mul-le, number_hash, pair_hash, pow-add, share_place, suc, sum_by, sum_by-cons, sym, words_hash, ◌%◌, ◌*◌, ◌+◌, ◌-◌, ◌/◌, ◌<◌, ◌^◌, ◌∙◌, ◌∷◌, ◌≡◌, ◌≢◌, ◌≤◌}
+use Rattle.hash_map_keys.proofs.Common.{ℕ, ap, All, AllPairs, AreTables, AreWords, List, [], ap₂, arith, cond, count_by, dot, have_hashes, le_of_mul-le-mul_left, length, meetings, mul-le, number_hash, pair_hash, pow-add, share_place, suc, sum_by, sum_by-cons, sym, words_hash, ◌%◌, ◌*◌, ◌+◌, ◌-◌, ◌/◌, ◌<◌, ◌^◌, ◌∙◌, ◌∷◌, ◌≡◌, ◌≢◌, ◌≤◌}
 use Rattle.std.proofs.Common.{mul_assoc, nat_lt}
 use Rattle.std.proofs.Math.Nat.{mul-div-le}
 use Rattle.std.proofs.lemmas.Bool.Decides.{nat_tests}
-use Rattle.hash_numbers.proofs.FromEvenness.{exactly, share_both, share_low}
-use Rattle.hash_numbers.proofs.Meetings.{few_meetings_of}
-use Rattle.hash_numbers.proofs.Words as words
+use Rattle.hash_map_keys.proofs.FromEvenness.{exactly, share_both, share_low}
+use Rattle.hash_map_keys.proofs.Meetings.{few_meetings_of}
+use Rattle.hash_map_keys.proofs.WordHashes as words
 
 abbrev Table : Type 0
 Table = List ℕ × ℕ

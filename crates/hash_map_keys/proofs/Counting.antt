@@ -1,5 +1,5 @@
 -- Counting keys, of any form, by a number that each has.
-use Rattle.hash_numbers.proofs.Common.{ℕ, All, All-cons, All-head, All-map, All-nil, All-tail, AllPairs, AllPairs-cons, Any-from_list_any, Bool, Decides-eqb, IsDistinct-from_AllPairs, List, [], ap, arith, cases_Bool, cases_lt, cond, count_by, eq-eqb, eqb, eqb-true, eqb_tells, false, get_or, get_or-map, inl, inr, length, length-le_from_distinct_below, length-map, list_any, map, nat_eq, refl, suc, sum_by-cons, sym, true, zero, ◌*◌, ◌+◌, ◌<◌, ◌∙◌, ◌∷◌, ◌≡◌, ◌≢◌, ◌≤◌}
+use Rattle.hash_map_keys.proofs.Common.{ℕ, All, All-cons, All-head, All-map, All-nil, All-tail, AllPairs, AllPairs-cons, Any-from_list_any, Bool, Decides-eqb, IsDistinct-from_AllPairs, List, [], ap, arith, cases_Bool, cases_lt, cond, count_by, eq-eqb, eqb, eqb-true, eqb_tells, false, get_or, get_or-map, inl, inr, length, length-le_from_distinct_below, length-map, list_any, map, nat_eq, refl, suc, sum_by-cons, sym, true, zero, ◌*◌, ◌+◌, ◌<◌, ◌∙◌, ◌∷◌, ◌≡◌, ◌≢◌, ◌≤◌}
 
 -- ---- by a number that tells a key
 

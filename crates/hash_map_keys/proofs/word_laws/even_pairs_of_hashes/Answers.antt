@@ -1,5 +1,5 @@
-use Rattle.hash_numbers.proofs.KeyLaws.{even_pairs, exactly_even}
-use Rattle.hash_numbers.proofs.laws.even_pairs_of_hashes.Goals as goal
+use Rattle.hash_map_keys.proofs.KeyLaws.{even_pairs, exactly_even}
+use Rattle.hash_map_keys.proofs.word_laws.even_pairs_of_hashes.Goals as goal
 
 pub returns-clause-most : goal.returns-clause-most
 returns-clause-most c = even_pairs

@@ -1,8 +1,8 @@
 -- Lists of words under lists of multipliers: what differs is a word at some place.
-use Rattle.hash_numbers.proofs.Common.{ℕ, All, All-cons, All-head, All-nil, All-tail, AllPairs, AreWords, List, [], ap, ap₂, arith, dot, eqb_tells, get_or, inl, inr, length, lit<, mod-lt, mul-add-lt, pow-add, refl, subst, suc, sym, words_hash, zero, ◌%◌, ◌*◌, ◌+◌, ◌-◌, ◌/◌, ◌<◌, ◌^◌, ◌∙◌, ◌∷◌, ◌≡◌, ◌≢◌, ◌≤◌}
-use Rattle.hash_numbers.proofs.Counting.{count}
-use Rattle.hash_numbers.proofs.Evenness.{even, same_addend}
-use Rattle.hash_numbers.proofs.Odds.{same_by_places}
+use Rattle.hash_map_keys.proofs.Common.{ℕ, All, All-cons, All-head, All-nil, All-tail, AllPairs, AreWords, List, [], ap, ap₂, arith, dot, eqb_tells, get_or, inl, inr, length, lit<, mod-lt, mul-add-lt, pow-add, refl, subst, suc, sym, words_hash, zero, ◌%◌, ◌*◌, ◌+◌, ◌-◌, ◌/◌, ◌<◌, ◌^◌, ◌∙◌, ◌∷◌, ◌≡◌, ◌≢◌, ◌≤◌}
+use Rattle.hash_map_keys.proofs.Counting.{count}
+use Rattle.hash_map_keys.proofs.Evenness.{even, same_addend}
+use Rattle.hash_map_keys.proofs.Odds.{same_by_places}
 
 -- ---- a list at a place, and without it
 

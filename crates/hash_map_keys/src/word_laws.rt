@@ -4,9 +4,9 @@
 ghost use Rattle.std.specs.Prelude.{◌≡◌, ◌≢◌, ℕ, ◌+◌, ◌-◌, ◌*◌, ◌/◌, ◌%◌, ◌^◌, ◌<◌, ◌≤◌, List, [], ◌∷◌, length, nat_lt, All, AllPairs};
 ghost use Rattle.std.specs.List.{count_by, sum_by};
 ghost use Rattle.hashers.specs.Counts.{meetings};
-ghost use Rattle.hash_numbers.specs.Numbers.{AreLists, AreTables, AreWords, have_hashes, number_hash, pair_hash, share_place, words_hash};
+ghost use Rattle.hash_map_keys.specs.Numbers.{AreLists, AreTables, AreWords, have_hashes, number_hash, pair_hash, share_place, words_hash};
 
-/// [`number_hash`](crate::number::number_hash) is the hash of one word, and [`pair_hash`](crate::number::pair_hash) that of
+/// [`number_hash`](crate::numbers::number_hash) is the hash of one word, and [`pair_hash`](crate::numbers::pair_hash) that of
 /// two: so what follows, over n words, holds of numbers with n = 1, and of numbers below 2^128 and pairs of numbers with
 /// n = 2.
 pub fn numbers_are_words()

@@ -1,9 +1,0 @@
-pub mod Common
-pub mod Odds
-pub mod Counting
-pub mod Multipliers
-pub mod Evenness
-pub mod Words
-pub mod FromEvenness
-pub mod Meetings
-pub mod KeyLaws
