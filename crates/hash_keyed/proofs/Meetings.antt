@@ -1,61 +1,67 @@
--- Over all keys together, few pairs of texts meet.
-use Rattle.hash_keyed.proofs.Common.{ℕ, suc, ◌≢◌, ◌+◌, ◌-◌, ◌*◌, ◌/◌, ◌%◌, ◌^◌, ◌≤◌, max, cond, List, [], ◌∷◌, length, get_or, filter, All, AllPairs, le_refl, arith, count_by, sum_by, mul-le, All-tail, filter_passes, length-filter, sum_by-cons, IsText, prime61, word_count, AreKeys, poly61, share_place, eqb-true}
+-- Over all keys together, few pairs meet, where two do at few keys.
+use Rattle.hash_keyed.proofs.Common.{ℕ, suc, ◌≡◌, ◌≢◌, ◌+◌, ◌-◌, ◌*◌, ◌/◌, ◌%◌, ◌^◌, ◌<◌, ◌≤◌, max, cond, Bool, List, [], ◌∷◌, length, get_or, filter, All, AllPairs, le_refl, arith, count_by, sum_by, mul-le, All-filter, All-tail, AllPairs-filter, filter_passes, length-filter, sum_by-cons, IsText, prime61, word_count, AreKeys, poly61, share_place, eqb, eqb-true}
 use Rattle.hashers.specs.Counts.{meetings}
 use Rattle.hashers.proofs.SumLemmas.{sum_by-add, sum_by-same, sum_by-none}
 use Rattle.hash_keyed.proofs.Buckets.{few_keys_share_bits}
-use Rattle.hash_keyed.proofs.Collisions.{filtered_keys, pairs, pairs-is}
+use Rattle.hash_keyed.proofs.Collisions.{pairs, pairs-is}
 
-module _ (bits most : ℕ) (within : bits ≤ 61) (keys : List ℕ) (are : AreKeys prime61 keys) where
-  bound : ℕ
-  bound = (2 * (prime61 / 2 ^ bits) + 1) * (most + 1)
+abbrev share : {Y : Type 0} → ℕ → (Y → ℕ) → Y → Y → Bool
+share bits hash x y = eqb (hash x % 2 ^ bits) (hash y % 2 ^ bits)
 
-  -- the keys at which two texts meet
-  few_meet : (s t : List ℕ) → IsText s → IsText t → s ≢ t → word_count s ≤ most → word_count t ≤ most
-      → sum_by (λ key. cond (share_place bits key s t) 1 0) keys ≤ bound
-  unfolding bound
-  few_meet s t s_is t_is differ s_few t_few =
-      let test = λ (key : ℕ). share_place bits key s t in
+module _ {X Y : Type 0} (is : X → Type 0) (hash : X → Y → ℕ) (number : Y → Type 0) (bits bound : ℕ)
+    (few : (x y : Y) → number x → number y → x ≢ y → (keys : List X) → All is keys → AllPairs ◌≢◌ keys
+    → All (λ k. hash k x % 2 ^ bits ≡ hash k y % 2 ^ bits) keys → length keys ≤ bound)
+    (keys : List X) (are : All is keys) (differ : AllPairs ◌≢◌ keys) where
+  -- the keys at which two of them meet
+  few_meet : (x y : Y) → number x → number y → x ≢ y → sum_by (λ key. cond (share bits (hash key) x y) 1 0) keys ≤ bound
+  few_meet x y x_is y_is apart =
+      let test = λ (key : X). share bits (hash key) x y in
       let kept = filter test keys in
-      let few = few_keys_share_bits s t bits kept s_is t_is differ within (filtered_keys prime61 test keys are)
-      (λ i d h. eqb-true (poly61 (get_or kept i d) s % 2 ^ bits) (poly61 (get_or kept i d) t % 2 ^ bits) (filter_passes test keys i d h)) in
-      let wide : (2 * (prime61 / 2 ^ bits) + 1) * (max (word_count s) (word_count t) + 1) ≤ (2 * (prime61 / 2 ^ bits) + 1) * (most + 1) =
-      mul-le (2 * (prime61 / 2 ^ bits) + 1) (max (word_count s) (word_count t) + 1) (2 * (prime61 / 2 ^ bits) + 1) (most + 1)
-      (le_refl (2 * (prime61 / 2 ^ bits) + 1)) (omega arith) in
-      omega (arith, few, wide, length-filter test keys)
+      let small = few x y x_is y_is apart kept (All-filter test is keys are) (AllPairs-filter ◌≢◌ test keys differ)
+      (λ i any h. let key = get_or kept i any in
+      eqb-true (hash key x % 2 ^ bits) (hash key y % 2 ^ bits) (filter_passes test keys i any h)) in
+      omega (arith, small, length-filter test keys)
 
-  -- and one text with each of others
-  few_meet_one : (s : List ℕ) (texts : List (List ℕ)) → IsText s → word_count s ≤ most → All IsText texts → All (λ t. s ≢ t) texts
-      → All (λ t. word_count t ≤ most) texts
-      → sum_by (λ key. count_by (share_place bits key s) texts) keys ≤ length texts * bound
-  few_meet_one s [] s_is s_few are_texts differ few = omega (arith, sum_by-none keys)
-  few_meet_one s (t ∷ texts) s_is s_few are_texts differ few =
+  -- and one with each of others
+  few_meet_one : (x : Y) (numbers : List Y) → number x → All number numbers → All (λ y. x ≢ y) numbers
+      → sum_by (λ key. count_by (share bits (hash key) x) numbers) keys ≤ length numbers * bound
+  few_meet_one x [] x_is are_numbers apart = omega (arith, sum_by-none keys)
+  few_meet_one x (y ∷ numbers) x_is are_numbers apart =
       omega (
         arith,
-        few_meet s t s_is (are_texts 0 [] (omega arith)) (differ 0 [] (omega arith)) s_few (few 0 [] (omega arith)),
-        few_meet_one s texts s_is s_few (All-tail IsText t texts are_texts) (All-tail (λ u. s ≢ u) t texts differ)
-            (All-tail (λ u. word_count u ≤ most) t texts few),
-        sum_by-same (λ key. count_by (share_place bits key s) (t ∷ texts))
-            (λ key. cond (share_place bits key s t) 1 0 + count_by (share_place bits key s) texts)
-            (λ key. sum_by-cons (λ u. cond (share_place bits key s u) 1 0) t texts) keys,
-        sum_by-add (λ key. cond (share_place bits key s t) 1 0) (λ key. count_by (share_place bits key s) texts) keys,
+        few_meet x y x_is (are_numbers 0 y (omega arith)) (apart 0 y (omega arith)),
+        few_meet_one x numbers x_is (All-tail number y numbers are_numbers) (All-tail (λ u. x ≢ u) y numbers apart),
+        sum_by-same (λ key. count_by (share bits (hash key) x) (y ∷ numbers))
+            (λ key. cond (share bits (hash key) x y) 1 0 + count_by (share bits (hash key) x) numbers)
+            (λ key. sum_by-cons (λ u. cond (share bits (hash key) x u) 1 0) y numbers) keys,
+        sum_by-add (λ key. cond (share bits (hash key) x y) 1 0) (λ key. count_by (share bits (hash key) x) numbers) keys,
       )
 
-  few_pairs_of : (texts : List (List ℕ)) → All IsText texts → AllPairs ◌≢◌ texts → All (λ t. word_count t ≤ most) texts
-      → sum_by (λ key. meetings (share_place bits key) texts) keys ≤ pairs (length texts) * bound
+  few_pairs_of : (numbers : List Y) → All number numbers → AllPairs ◌≢◌ numbers
+      → sum_by (λ key. meetings (share bits (hash key)) numbers) keys ≤ pairs (length numbers) * bound
   unfolding meetings pairs
-  few_pairs_of [] are_texts differ few = omega (arith, sum_by-none keys)
-  few_pairs_of (t ∷ texts) are_texts differ few =
+  few_pairs_of [] are_numbers apart = omega (arith, sum_by-none keys)
+  few_pairs_of (x ∷ numbers) are_numbers apart =
       omega (
         arith,
-        few_meet_one t texts (are_texts 0 [] (omega arith)) (few 0 [] (omega arith)) (All-tail IsText t texts are_texts)
-            (λ k d h. differ 0 (suc k) d (omega arith) (omega arith)) (All-tail (λ u. word_count u ≤ most) t texts few),
-        few_pairs_of texts (All-tail IsText t texts are_texts) (λ i j d i_in j_in. differ (suc i) (suc j) d (omega arith) (omega arith))
-            (All-tail (λ u. word_count u ≤ most) t texts few),
-        sum_by-add (λ key. count_by (share_place bits key t) texts) (λ key. meetings (share_place bits key) texts) keys,
+        few_meet_one x numbers (are_numbers 0 x (omega arith)) (All-tail number x numbers are_numbers)
+            (λ k d h. apart 0 (suc k) d (omega arith) (omega arith)),
+        few_pairs_of numbers (All-tail number x numbers are_numbers) (λ i j d i_in j_in. apart (suc i) (suc j) d (omega arith) (omega arith)),
+        sum_by-add (λ key. count_by (share bits (hash key) x) numbers) (λ key. meetings (share bits (hash key)) numbers) keys,
       )
 
-  pub few_meetings_of : (texts : List (List ℕ)) → All IsText texts → AllPairs ◌≢◌ texts → All (λ t. word_count t ≤ most) texts
-      → sum_by (λ key. meetings (share_place bits key) texts) keys
-      ≤ length texts * (length texts - 1) / 2 * ((2 * (prime61 / 2 ^ bits) + 1) * (most + 1))
-  unfolding bound
-  few_meetings_of texts are_texts differ few = rw (← (pairs-is (length texts))) (few_pairs_of texts are_texts differ few)
+  pub few_meetings_of : (numbers : List Y) → All number numbers → AllPairs ◌≢◌ numbers
+      → sum_by (λ key. meetings (share bits (hash key)) numbers) keys ≤ length numbers * (length numbers - 1) / 2 * bound
+  few_meetings_of numbers are_numbers apart = rw (← (pairs-is (length numbers))) (few_pairs_of numbers are_numbers apart)
+
+pub few_meetings_of_texts : (texts : List (List ℕ)) (most bits : ℕ) (keys : List ℕ) → All IsText texts → AllPairs ◌≢◌ texts
+    → All (λ text. word_count text ≤ most) texts → bits ≤ 61 → AreKeys prime61 keys
+    → sum_by (λ key. meetings (share_place bits key) texts) keys
+    ≤ length texts * (length texts - 1) / 2 * ((2 * (prime61 / 2 ^ bits) + 1) * (most + 1))
+few_meetings_of_texts texts most bits keys are_texts differ few within are =
+    let q = 2 * (prime61 / 2 ^ bits) + 1 in
+    few_meetings_of (λ key. key < prime61) poly61 (λ s. IsText s × (word_count s ≤ most)) bits (q * (most + 1))
+    (λ s t s_is t_is apart some below differs have.
+    let fewer = few_keys_share_bits s t bits some s_is.0 t_is.0 apart within record { below = below; differ = differs } have in
+    omega (arith, fewer, mul-le q (max (word_count s) (word_count t) + 1) q (most + 1) (le_refl q) (omega (arith, s_is.1, t_is.1))))
+    keys are.below are.differ texts (λ i any h. (are_texts i any h, few i any h)) differ

@@ -4,7 +4,7 @@ use Rattle.std.proofs.Common.{mul_assoc, nat_lt}
 use Rattle.std.proofs.Math.Nat.{mul-div-le}
 use Rattle.std.proofs.lemmas.Bool.Decides.{nat_tests}
 use Rattle.hash_map_keys.proofs.FromEvenness.{exactly, share_both, share_low}
-use Rattle.hash_map_keys.proofs.Meetings.{few_meetings_of}
+use Rattle.hash_keyed.proofs.Meetings.{few_meetings_of}
 use Rattle.hash_map_keys.proofs.WordHashes as words
 
 abbrev Table : Type 0

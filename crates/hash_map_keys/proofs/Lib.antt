@@ -5,7 +5,6 @@ pub mod Multipliers
 pub mod Evenness
 pub mod WordHashes
 pub mod FromEvenness
-pub mod Meetings
 pub mod KeyLaws
 pub mod Fours
 pub mod Shares
