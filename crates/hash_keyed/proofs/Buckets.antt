@@ -1,5 +1,7 @@
 -- Under few keys two different texts come into one bucket.
-use Rattle.hash_keyed.proofs.Common.{ℕ, zero, suc, ◌≡◌, ◌≢◌, ◌+◌, ◌-◌, ◌*◌, ◌/◌, ◌%◌, ◌^◌, ◌<◌, ◌≤◌, max, Bool, true, false, ◌||◌, eqb, List, length, get_or, fold, All, sym, ap, ◌∙◌, inl, inr, ⊎_elim, arith, lit<, le_refl, add-zero, mod-lt, mul-add, div-mul-le_self, add-mul-mod_self_right, div-add-mod, mul-le, le-div, pow-add, cases_lt, cases_order, eq-eqb, or_left, or_right, IsText, prime61, word_count, words, poly_step, poly_hash, AreKeys, as_word, poly61, mod-eq_of_lt, pow_pos, eqb-true}
+use Rattle.std.proofs.lemmas.Bool.Decides.{nat_tests}
+use Rattle.std.proofs.Common.{rules}
+use Rattle.hash_keyed.proofs.Common.{ℕ, zero, suc, ◌≡◌, ◌≢◌, ◌+◌, ◌-◌, ◌*◌, ◌/◌, ◌%◌, ◌^◌, ◌<◌, ◌≤◌, max, Bool, true, false, ◌||◌, eqb, List, length, get_or, fold, All, sym, ap, ◌∙◌, inl, inr, ⊎_elim, arith, lit<, le_refl, add-zero, mod-lt, mul-add, div-mul-le_self, add-mul-mod_self_right, div-add-mod, mul-le, le-div, pow-add, cases_lt, cases_order, eq-eqb, or_left, or_right, IsText, prime61, word_count, words, poly_step, poly_hash, AreKeys, as_word, poly61, mod-eq_of_lt, pow_pos, eqb-true, common_steps}
 use Rattle.hash_keyed.proofs.Collisions.{Few, few_none, few_or, few_more, few_keys_differ}
 
 -- the first value is the second and up to q times n, modulo the prime
@@ -47,9 +49,7 @@ apart_by n v w p some same less below =
     let dw = div-add-mod w n in
     let more : b < a = ⊎_elim (λ h. h) (λ h. absurd (omega (arith, dv, dw, same, mul-le n a n b (le_refl n) h))) (cases_lt b a) in
     let sum : b + (a - b) ≡ a = omega arith in
-    let product = sym (mul-add n b (a - b)) ∙ ap (λ z. n * z) sum in
-    let within : a ≤ p / n = le-div a p n some (omega (arith, div-mul-le_self v n)) in
-    (a - b, omega arith, omega arith, omega (arith, dv, dw, same, product))
+    grind (arith, nat_tests, common_steps, mul-add, le-div, div-mul-le_self)
 
 value-below : (key : ℕ) (text : List ℕ) → poly_hash prime61 key text < prime61
 value-below key text = mod-lt (fold (poly_step prime61 key) 1 (words text) * key) (lit< tt)
@@ -68,19 +68,7 @@ same_or_above n s t key =
 
 shares : (key n : ℕ) (s t : List ℕ) → 0 < n → poly_hash prime61 key s % n ≡ poly_hash prime61 key t % n → same_or_above n s t key ≡ true
 unfolding same_or_above
-shares key n s t some same =
-    let v = poly_hash prime61 key s in
-    let w = poly_hash prime61 key t in
-    let first = eqb v ((w + 0) % prime61) in
-    let second = above s t n (prime61 / n) key in
-    let third = above t s n (prime61 / n) key in
-    elim (cases_order v w) [
-      | inl equal ↦
-          or_left first (second || third)
-          (eq-eqb v ((w + 0) % prime61) (equal ∙ sym (mod-eq_of_lt (value-below key t)) ∙ ap (λ z. z % prime61) (sym (add-zero w))))
-      | inr (inl less) ↦ or_right first (second || third) (or_right second third (above_by key n t s some (sym same) less))
-      | inr (inr more) ↦ or_right first (second || third) (or_left second third (above_by key n s t some same more))
-    ]
+shares key n s t some same = search (rules, above, cases_order, or_left, eq-eqb, mod-eq_of_lt, value-below, add-zero, or_right, above_by)
 
 few_shares : (s t : List ℕ) (n : ℕ) → IsText s → IsText t → s ≢ t
     → Few prime61 (same_or_above n s t) ((2 * (prime61 / n) + 1) * (max (word_count s) (word_count t) + 1))
@@ -105,17 +93,12 @@ few_keys_share s t n keys s_is t_is differ some are share =
 
 -- the value is the low 61 bits of the hash
 low_bits : (key : ℕ) (text : List ℕ) → poly61 key text % 2 ^ 61 ≡ poly_hash prime61 key text
-low_bits key text =
-    let v = poly_hash prime61 key text in
-    let below : v < 2 ^ 61 = omega (arith, value-below key text) in
-    add-mul-mod_self_right v (v % 8) (2 ^ 61) ∙ mod-eq_of_lt below
+low_bits key text = grind (arith, nat_tests, common_steps, value-below key text)
 
 pub few_keys_share_low : (s t : List ℕ) (n : ℕ) (keys : List ℕ) → IsText s → IsText t → s ≢ t → 1 ≤ n → AreKeys prime61 keys
     → All (λ key. poly61 key s % 2 ^ 61 % n ≡ poly61 key t % 2 ^ 61 % n) keys
     → length keys ≤ (2 * (prime61 / n) + 1) * (max (word_count s) (word_count t) + 1)
-few_keys_share_low s t n keys s_is t_is differ some are share =
-    few_keys_share s t n keys s_is t_is differ some are
-    (λ k d h. ap (λ v. v % n) (sym (low_bits (get_or keys k d) s)) ∙ share k d h ∙ ap (λ v. v % n) (low_bits (get_or keys k d) t))
+few_keys_share_low s t n keys s_is t_is differ some are share = grind (arith, nat_tests, common_steps, few_keys_share, low_bits)
 
 pub few_keys_share_bits : (s t : List ℕ) (bits : ℕ) (keys : List ℕ) → IsText s → IsText t → s ≢ t → bits ≤ 61 → AreKeys prime61 keys
     → All (λ key. poly61 key s % 2 ^ bits ≡ poly61 key t % 2 ^ bits) keys
@@ -127,7 +110,4 @@ few_keys_share_bits s t bits keys s_is t_is differ within are share =
     low : (v : ℕ) → as_word v % 2 ^ bits ≡ v % 2 ^ bits
     low v =
         let e : 61 - bits + bits ≡ 61 = omega arith in
-        let whole : 2 ^ (61 - bits) * 2 ^ bits ≡ 2 ^ 61 = sym (pow-add 2 (61 - bits) bits) ∙ ap (λ k. 2 ^ k) e in
-        let scaled = ap (λ k. v % 8 * k) whole in
-        let split : as_word v ≡ v + v % 8 * 2 ^ (61 - bits) * 2 ^ bits = omega (arith, scaled) in
-        ap (λ z. z % 2 ^ bits) split ∙ add-mul-mod_self_right v (v % 8 * 2 ^ (61 - bits)) (2 ^ bits)
+        grind (arith, nat_tests, common_steps, pow-add 2 (61 - bits) bits, add-mul-mod_self_right v (v % 8 * 2 ^ (61 - bits)) (2 ^ bits))

@@ -1,5 +1,7 @@
 -- What the code's steps compute.
-use Rattle.hash_keyed.proofs.Common.{ℕ, ◌≡◌, ◌+◌, ◌*◌, ◌/◌, ◌%◌, ◌^◌, ◌<◌, ◌≤◌, List, [], ◌∷◌, ◌++◌, length, take, drop, get_or, sym, ap, ap₂, ◌∙◌, arith, le_of_eq, length-drop, refl, pow_mono, mod-mod, mul-mod_first, mul-le, pow-add, shl_whole, take-append-drop, drop-append-le, take-append-le, drop_at, length-take-le, take_more, take-take, All-head, All-tail, All-take, IsText, le, IsByte, prime61, poly_step, poly_hash, Position, after, full_words, poly_end, as_word, ArePowers, block_sum, part_at, le-push, poly_end-is, length-append, take_all, append_assoc}
+use Rattle.std.proofs.lemmas.Bool.Decides.{nat_tests}
+use Rattle.std.proofs.Common.{rules}
+use Rattle.hash_keyed.proofs.Common.{ℕ, ◌≡◌, ◌+◌, ◌*◌, ◌/◌, ◌%◌, ◌^◌, ◌<◌, ◌≤◌, List, [], ◌∷◌, ◌++◌, length, take, drop, get_or, sym, ap, ap₂, ◌∙◌, arith, le_of_eq, length-drop, refl, pow_mono, mod-mod, mul-mod_first, mul-le, pow-add, shl_whole, take-append-drop, drop-append-le, take-append-le, drop_at, length-take-le, take_more, take-take, All-head, All-tail, All-take, IsText, le, IsByte, prime61, poly_step, poly_hash, Position, after, full_words, poly_end, as_word, ArePowers, block_sum, part_at, le-push, poly_end-is, length-append, take_all, append_assoc, common_steps}
 use Rattle.std.specs.Simd.{first_chunks}
 use Rattle.hash_keyed.proofs.Encoding.{le-lt}
 use Rattle.hash_keyed.proofs.ByWords.{same_step, four_steps, after-seven, after-four, after-few}
@@ -69,10 +71,7 @@ four_there key k2 k3 k4 k8 s t block are whole led more =
     let flat : s * k4 + (a * k3 + b * k2 + c * key + d) ≡ s * k4 + a * k3 + b * k2 + c * key + d = omega arith in
     let same : t % prime61 ≡ step (step (step (step s (le (take 7 (block ++ more)))) (le (take 7 (drop 7 (block ++ more)))))
     (le (take 7 (drop 14 (block ++ more))))) (le (take 7 (drop 21 (block ++ more)))) =
-    led ∙ ap (λ n. n % prime61) flat ∙ four_steps prime61 key k2 k3 k4 s a b c d are.second_is are.third_is are.fourth_is
-    ∙ ap₂ (λ u v. step (step u v) d) (ap₂ (λ u v. step (step s u) v) wa wb) wc
-    ∙ ap (λ v. step (step (step (step s (le (take 7 (block ++ more)))) (le (take 7 (drop 7 (block ++ more)))))
-    (le (take 7 (drop 14 (block ++ more))))) v) wd in
+    grind (arith, nat_tests, common_steps, four_steps) in
     after-four key s t (block ++ more) (omega (arith, length-append block more)) same
     ∙ ap (after (full_words key t)) (drop_at block more 28 whole)
 
@@ -114,25 +113,19 @@ eight_there key k2 k3 k4 k8 s t x y block halves are whole cut first second led 
 pub chunk_more : (key s t n : ℕ) (rest block more : List ℕ) (end : Position) → block ≡ take n rest → more ≡ drop n rest
     → ((m : List ℕ) → after (full_words key s) (block ++ m) ≡ after (full_words key t) m)
     → after (full_words key s) rest ≡ end → after (full_words key t) more ≡ end
-chunk_more key s t n rest block more end front back led so_far =
-    let whole : block ++ more ≡ rest = ap₂ (λ u v. u ++ v) front back ∙ take-append-drop n rest in
-    sym (led more) ∙ ap (after (full_words key s)) whole ∙ so_far
+chunk_more key s t n rest block more end front back led so_far = grind (arith, nat_tests, common_steps, take-append-drop)
 
 pub seven_more : (key s t w : ℕ) (rest word more : List ℕ) (end : Position) → word ≡ take 7 rest → more ≡ drop 7 rest
     → length more + 7 ≡ length rest
     → w ≡ le word → t % prime61 ≡ poly_step prime61 key s w
     → after (full_words key s) rest ≡ end → after (full_words key t) more ≡ end
-seven_more key s t w rest word more end front back long number led so_far =
-    ap (after (full_words key t)) back
-    ∙ sym (after-seven key s t rest (omega (arith, long)) (led ∙ ap (poly_step prime61 key s) (number ∙ ap le front))) ∙ so_far
+seven_more key s t w rest word more end front back long number led so_far = grind (arith, nat_tests, common_steps, after-seven)
 
 -- of eight bytes at the front the first seven
 pub eight_more : (key s t w : ℕ) (rest block more : List ℕ) (end : Position) → block ≡ take 8 rest → more ≡ drop 7 rest
     → 8 ≤ length rest → w ≡ le (take 7 block) → t % prime61 ≡ poly_step prime61 key s w
     → after (full_words key s) rest ≡ end → after (full_words key t) more ≡ end
-eight_more key s t w rest block more end front back enough number led so_far =
-    seven_more key s t w rest (take 7 rest) more end refl back (omega (arith, ap length back, length-drop 7 rest, enough))
-    (number ∙ ap (λ l. le (take 7 l)) front ∙ ap le (take-take 7 8 rest (omega arith))) led so_far
+eight_more key s t w rest block more end front back enough number led so_far = search (rules, seven_more, length-drop, take-take)
 
 -- ---- the answer
 
@@ -141,10 +134,7 @@ pub ended_is : (key state word count one s q f r : ℕ) → one ≡ 1 * 2 ^ (8 *
     → r + r % 8 * 2 ^ 61 ≡ as_word (poly_end (record { key = key; state = state % prime61; word = word; count = count }))
 ended_is key state word count one s q f r one_is s_is q_is f_is r_is =
     let last : word + one ≡ word + 2 ^ (8 * count) = omega (arith, one_is) in
-    let step : s % prime61 ≡ poly_step prime61 key (state % prime61) (word + 2 ^ (8 * count)) =
-    s_is ∙ ap (poly_step prime61 key state) last
-    ∙ same_step prime61 key state (state % prime61) (word + 2 ^ (8 * count)) (sym (mod-mod state prime61)) in
-    ap as_word (r_is ∙ f_is ∙ ap (λ n. n % prime61) q_is ∙ sym (mul-mod_first s key prime61) ∙ ap (λ n. (n * key) % prime61) step)
+    grind (arith, nat_tests, common_steps, same_step, mod-mod, mul-mod_first)
 
 -- the answer where the full words and the few bytes behind them lead
 pub answer_is : (key s w n r : ℕ) (bytes last : List ℕ) → after (full_words key 1) bytes ≡ after (full_words key s) last → length last < 7
@@ -164,8 +154,4 @@ write_is key s t w n end rest last so_far led few word count =
 -- where no byte is kept
 pub nothing_kept : (key s w n : ℕ) (at : Position) → part_at key (s % prime61) w n ≡ at → at.count ≤ 0 → w < 2 ^ (8 * n)
     → full_words key s ≡ at
-nothing_kept key s w n at same none known =
-    let count : n ≡ 0 = omega (arith, ap (λ (a : Position). a.count) same) in
-    let one : 2 ^ (8 * n) ≡ 1 = ap (λ k. 2 ^ (8 * k)) count in
-    let word : w ≡ 0 = omega (arith, known, one) in
-    ap₂ (λ u v. part_at key (s % prime61) u v) (sym word) (sym count) ∙ same
+nothing_kept key s w n at same none known = grind (arith, nat_tests, common_steps)

@@ -1,4 +1,5 @@
 -- Under few keys two different texts have one hash.
+use Rattle.std.proofs.Common.{rules}
 use Rattle.hash_keyed.proofs.Common.{ℕ, zero, suc, ◌≡◌, ◌≢◌, ◌+◌, ◌-◌, ◌*◌, ◌/◌, ◌%◌, ◌^◌, ◌<◌, ◌≤◌, max, Bool, true, false, not, ◌||◌, eqb, List, [], ◌∷◌, length, get_or, reverse, filter, fold, All, AllPairs, refl, sym, ap, ◌∙◌, inl, inr, ⊎_elim, arith, add-zero, mod-lt, lt_trans, lit<, lit≤, mod-add-mod, mod-mod, cases_lt, eq-eqb, or_cases, or_left, or_right, not-true, both_ways, false≢true, length-reverse, reverse-reverse, All-weaker, All-tail, All-filter, filter_passes, length-filter_both, AllPairs-filter, IsText, prime61, HasNoZeroDivisors, words, word_count, poly_step, poly_hash, AreKeys, as_word, poly61, SomeTwoMeet, eqb-true, length-append, IsPermutation-reverse, All-permutation}
 use Rattle.hash_keyed.proofs.Mersenne.{no_zero_product}
 use Rattle.hash_keyed.proofs.Polynomials.{value, IsRoot, IsMultiple, added, value-added, length-added, monic, monic_same, all_roots, mod_step, mod_difference, horner}
@@ -149,9 +150,7 @@ some_at p key (t ∷ texts) (suc i) (suc j) before below same =
 -- equal values differ by 0
 same_mod : (m : ℕ) (s t : List ℕ) (key : ℕ) → poly_hash (suc m) key s ≡ poly_hash (suc m) key t
     → poly_hash (suc m) key s ≡ (poly_hash (suc m) key t + 0) % suc m
-same_mod m s t key same =
-    let h = fold (poly_step (suc m) key) 1 (words t) * key in
-    same ∙ sym (mod-mod h (suc m)) ∙ ap (λ z. z % suc m) (sym (add-zero (h % suc m)))
+same_mod m s t key same = search (rules, mod-mod, add-zero)
 
 module _ (m : ℕ) (no_divisors : HasNoZeroDivisors (suc m)) (wide : 2 ^ 56 ≤ suc m) (n : ℕ) where
   few_meet_one : (s t : List ℕ) → IsText s → IsText t → s ≢ t → word_count s ≤ n → word_count t ≤ n

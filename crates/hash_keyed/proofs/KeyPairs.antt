@@ -1,5 +1,6 @@
 -- Under few pairs of keys two different texts have one pair of hashes.
-use Rattle.hash_keyed.proofs.Common.{ℕ, zero, suc, ◌≡◌, ◌≢◌, ◌+◌, ◌-◌, ◌*◌, ◌^◌, ◌<◌, ◌≤◌, max, Bool, true, not, cond, eqb, List, [], ◌∷◌, length, get_or, map, filter, All, refl, sym, ap, ap₂, ◌∙◌, arith, pow-zero, eq-eqb, eqb-false, not-true, length-map, get_or-map, All-nil, All-cons, All-filter, All-map, filter_passes, length-filter_both, AllPairs-cons, AllPairs-filter, IsText, prime61, word_count, AreKeys, ArePairs, poly61, MeetAtBoth, pow-suc, eqb-true}
+use Rattle.std.proofs.lemmas.Bool.Decides.{nat_tests}
+use Rattle.hash_keyed.proofs.Common.{ℕ, zero, suc, ◌≡◌, ◌≢◌, ◌+◌, ◌-◌, ◌*◌, ◌^◌, ◌<◌, ◌≤◌, max, Bool, true, not, cond, eqb, List, [], ◌∷◌, length, get_or, map, filter, All, refl, sym, ap, ◌∙◌, arith, pow-zero, eq-eqb, eqb-false, not-true, length-map, get_or-map, All-nil, All-cons, All-filter, All-map, filter_passes, length-filter_both, AllPairs-cons, AllPairs-filter, IsText, prime61, word_count, AreKeys, ArePairs, poly61, MeetAtBoth, pow-suc, eqb-true, common_steps}
 use Rattle.hash_keyed.proofs.Collisions.{Few, few_keys_meet}
 
 abbrev Pair : Type 0
@@ -24,10 +25,7 @@ seconds p key pairs are first = record {
   differ = λ i j d less within.
       let long = length-map pairs (λ (pair : Pair). pair.1) in
       let at = λ (k : ℕ) (k_in : k < length pairs). get_or-map (λ (pair : Pair). pair.1) pairs k (d, d) d k_in in
-      let i_in : i < length pairs = omega (arith, less, within, long) in
-      let j_in : j < length pairs = omega (arith, within, long) in
-      λ same. are.differ i j (d, d) less j_in
-      (ap₂ (λ a b. (a, b)) (first i (d, d) i_in ∙ sym (first j (d, d) j_in)) (sym (at i i_in) ∙ same ∙ at j j_in));
+      grind (arith, nat_tests, common_steps);
 }
 
 -- two tests of keys that few keys pass
@@ -92,9 +90,7 @@ module _ (p b : ℕ) (one two : ℕ → Bool) (few_one : Few p one b) (few_two :
       )
 
 square : (b : ℕ) → b * b ≡ b ^ 2
-square b =
-    let one : b ^ 1 ≡ b = pow-suc b 0 ∙ ap (λ z. z * b) (pow-zero b) ∙ (let e : 1 * b ≡ b = omega arith in e) in
-    sym (pow-suc b 1 ∙ ap (λ z. z * b) one)
+square b = grind (arith, nat_tests, common_steps, pow-suc, pow-zero)
 
 pub few_pairs_meet : (s t : List ℕ) (pairs : List Pair) → IsText s → IsText t → s ≢ t → ArePairs prime61 pairs → All (MeetAtBoth s t) pairs
     → length pairs ≤ (max (word_count s) (word_count t) + 1) ^ 2
@@ -108,8 +104,5 @@ few_pairs_meet s t pairs s_is t_is differ are meet =
       arith,
       square b,
       few_pairs prime61 b test test few few pairs are
-          (λ i d h. (
-            eq-eqb (poly61 ((get_or pairs i d).0) s) (poly61 ((get_or pairs i d).0) t) ((meet i d h).0),
-            eq-eqb (poly61 ((get_or pairs i d).1) s) (poly61 ((get_or pairs i d).1) t) ((meet i d h).1),
-          )),
+          (λ i d h. grind (arith, nat_tests, common_steps, eq-eqb)),
     )

@@ -1,16 +1,12 @@
 -- The test of Lucas and Lehmer: where the power 2 ^ k of 2 + √3 is -1 modulo m, and the next 1, a divisor of m above 2 has a square of at least 2 * 2 ^ k.
-use Rattle.hash_keyed.proofs.Common.{◌≡◌, ◌≢◌, ℕ, suc, ◌+◌, ◌-◌, ◌*◌, ◌%◌, ◌^◌, ◌<◌, ◌≤◌, refl, sym, ap, ◌∙◌, mod-lt, arith, ap₂, pow-succ', mod-mod_of_dvd, mul-add-lt, same_from_place, dvd_of_mod-eq-zero, mod-eq_of_lt}
+use Rattle.std.proofs.lemmas.Bool.Decides.{nat_tests}
+use Rattle.hash_keyed.proofs.Common.{◌≡◌, ◌≢◌, ℕ, suc, ◌+◌, ◌-◌, ◌*◌, ◌%◌, ◌^◌, ◌<◌, ◌≤◌, refl, sym, ap, ◌∙◌, mod-lt, arith, ap₂, pow-succ', mod-mod_of_dvd, mul-add-lt, same_from_place, dvd_of_mod-eq-zero, mod-eq_of_lt, common_steps}
 use Rattle.hash_keyed.proofs.Orbits.{states_of_orbit}
 use Rattle.hash_keyed.proofs.Powers.{same-add, same-re, same-im, re, im, re-add, im-add, squares, power-from_squares}
 
 -- modulo a divisor of m that is above 2, m - 1 is not 1
 not_one : (m q : ℕ) → 0 < m → 2 < q → m % q ≡ 0 → (m - 1) % q ≢ 1 % q
-not_one m q some more divides one =
-    let back : m - 1 + 1 ≡ m = omega arith in
-    let two : (m - 1 + 1) % q ≡ (1 + 1) % q = same-add q (m - 1) 1 1 1 one refl in
-    let rest : 2 % q ≡ 2 = mod-eq_of_lt more in
-    let none : m % q ≡ 2 = ap (λ x. x % q) (sym back) ∙ two ∙ rest in
-    omega arith
+not_one m q some more divides one = grind (arith, nat_tests, common_steps, same-add q (m - 1) 1 1 1 one refl, mod-eq_of_lt more)
 
 -- the power n of 2 + √3 modulo q, as one number
 code : ℕ → ℕ → ℕ
@@ -32,11 +28,7 @@ module _ (q : ℕ) (some : 0 < q) where
   code-shift : (i j k : ℕ) → code q i ≡ code q j → code q (i + k) ≡ code q (j + k)
   code-shift i j k same =
       let parts = code-parts i j same in
-      let real = same-re q (re i) (im i) (re k) (im k) (re j) (im j) (re k) (im k) parts.0 parts.1 refl refl in
-      let imag = same-im q (re i) (im i) (re k) (im k) (re j) (im j) (re k) (im k) parts.0 parts.1 refl refl in
-      let residue = λ (x : ℕ). x % q in
-      code-same (i + k) (j + k) (ap residue (re-add i k) ∙ real ∙ ap residue (sym (re-add j k)))
-      (ap residue (im-add i k) ∙ imag ∙ ap residue (sym (im-add j k)))
+      grind (arith, nat_tests, common_steps, same-re, re, im, same-im, code-same, re-add, im-add)
 
 -- what is known modulo m is known modulo its divisor
 down : (m q x y : ℕ) → m % q ≡ 0 → x % m ≡ y → x % q ≡ y % q

@@ -1,5 +1,6 @@
 -- A number of some bytes behind other bytes.
-use Rattle.hash_keyed.proofs.Common.{ℕ, zero, suc, ◌≡◌, ◌+◌, ◌-◌, ◌*◌, ◌/◌, ◌%◌, ◌^◌, ◌<◌, ◌≤◌, List, ◌++◌, length, take, drop, refl, sym, ap, ap₂, ◌∙◌, arith, lit<, mod-lt, subst, length-drop, le_bytes, byte_at, bytes_low_first, div-add-mod, div-div-eq-div-mul, mul-le, pow-add, take-append-drop, drop_all, length-take-le, fold-append, All-append, All-drop, All-take, IsText, le, IsByte, IsText-le_bytes, prime61, poly_step, after, byte_in, full_words, IsInside, position_of, part_at, length-append, mod-mul, mod-eq_of_lt, pow-suc, pow_pos, take_all}
+use Rattle.std.proofs.lemmas.Bool.Decides.{nat_tests}
+use Rattle.hash_keyed.proofs.Common.{ℕ, zero, suc, ◌≡◌, ◌+◌, ◌-◌, ◌*◌, ◌/◌, ◌%◌, ◌^◌, ◌<◌, ◌≤◌, List, ◌++◌, length, take, drop, refl, sym, ap, ap₂, ◌∙◌, arith, lit<, mod-lt, subst, length-drop, le_bytes, byte_at, bytes_low_first, div-add-mod, div-div-eq-div-mul, mul-le, pow-add, take-append-drop, drop_all, length-take-le, fold-append, All-append, All-drop, All-take, IsText, le, IsByte, IsText-le_bytes, prime61, poly_step, after, full_words, IsInside, position_of, part_at, length-append, mod-mul, mod-eq_of_lt, pow-suc, pow_pos, take_all, common_steps}
 use Rattle.hash_words.proofs.ByteLemmas.{le-append, le-power}
 use Rattle.hash_words.proofs.PieceLemmas.{le-same}
 use Rattle.hash_keyed.specs.declared.poly61.Poly61Hasher.TheInside.{Inside}
@@ -18,10 +19,7 @@ byte_is (suc i) n = refl
 
 power_of_bytes : (k : ℕ) → 256 ^ k ≡ 2 ^ (8 * k)
 power_of_bytes zero = refl
-power_of_bytes (suc k) =
-    let e : 8 * suc k ≡ 8 + 8 * k = omega arith in
-    let more : 2 ^ (8 * suc k) ≡ 256 * 2 ^ (8 * k) = ap (λ j. 2 ^ j) e ∙ pow-add 2 8 (8 * k) in
-    omega (arith, pow-suc 256 k, power_of_bytes k, more)
+power_of_bytes (suc k) = grind (arith, nat_tests, common_steps, pow-add 2 8 (8 * k), pow-suc 256 k, power_of_bytes k)
 
 le-low_first : (i k n : ℕ) → le (bytes_low_first i k n) ≡ n / 256 ^ i % 256 ^ k
 unfolding le
@@ -40,9 +38,7 @@ length-le_bytes k n = length-low_first 0 k n
 
 pub le-le_bytes : (k n : ℕ) → n < 2 ^ (8 * k) → le (le_bytes k n) ≡ n
 unfolding le_bytes
-le-le_bytes k n within =
-    let whole : n / 256 ^ 0 ≡ n = omega arith in
-    le-low_first 0 k n ∙ ap₂ (λ m p. m % p) whole (power_of_bytes k) ∙ mod-eq_of_lt within
+le-le_bytes k n within = grind (arith, nat_tests, common_steps, le-low_first, power_of_bytes, mod-eq_of_lt)
 
 -- sixteen bytes of a number are eight of its low half and eight of its high half
 pub le_bytes-halves : (n : ℕ) → n < 2 ^ 128 → le_bytes 8 (n % 2 ^ 64) ++ le_bytes 8 (n / 2 ^ 64) ≡ le_bytes 16 n
@@ -96,30 +92,16 @@ module _ (h : Inside) (is : IsInside h) (number more first rest : ℕ) (short : 
 
   value : le all ≡ first + rest * 2 ^ 56
   unfolding all kept
-  value =
-      le-append kept (le_bytes more number)
-      ∙ ap₂ (λ m n. m + n) (le-le_bytes h.count h.word is.word_in)
-      (ap₂ (λ m n. m * 2 ^ (8 * n)) (le-le_bytes more number within) (length-le_bytes h.count h.word))
-      ∙ sym whole
+  value = grind (arith, nat_tests, common_steps, le-append, kept, le-le_bytes, length-le_bytes)
 
   behind_kept : after (position_of h) (le_bytes more number) ≡ after (full_words h.key h.state) all
   unfolding all kept
-  behind_kept =
-      ap (λ at. after at (le_bytes more number))
-      (sym (after-few h.key h.state kept (omega (arith, length-le_bytes h.count h.word, is.count_in))
-      ∙ ap₂ (λ w n. part_at h.key (h.state % prime61) w n) (le-le_bytes h.count h.word is.word_in) (length-le_bytes h.count h.word)))
-      ∙ sym (fold-append byte_in (full_words h.key h.state) kept (le_bytes more number))
+  behind_kept = grind (arith, nat_tests, common_steps, after-few, kept, length-le_bytes, le-le_bytes, fold-append)
 
   -- fewer than seven bytes in all
   pub number_kept : h.count + more < 7 → (first < 2 ^ (8 * (h.count + more)))
       × (part_at h.key (h.state % prime61) first (h.count + more) ≡ after (position_of h) (le_bytes more number))
-  number_kept few =
-      let below : le all < 2 ^ (8 * (h.count + more)) = subst (λ n. le all < 2 ^ (8 * n)) long (le-power all text) in
-      let same : le all ≡ first = omega (arith, value, below, places (h.count + more) few) in (
-        subst (λ n. n < 2 ^ (8 * (h.count + more))) same below,
-        sym (behind_kept ∙ after-few h.key h.state all (omega (arith, long, few))
-            ∙ ap₂ (λ w n. part_at h.key (h.state % prime61) w n) same long),
-      )
+  number_kept few = grind (arith, nat_tests, common_steps, all, long, le-power, text, value, places, behind_kept, after-few)
 
   module _ (enough : 7 ≤ h.count + more) where
     seven : length (take 7 all) ≡ 7

@@ -1,5 +1,6 @@
 -- A text in parts: powers by squares, the state behind whole words, and two texts joined.
-use Rattle.hash_keyed.proofs.Common.{ℕ, zero, suc, ◌≡◌, ◌≢◌, ◌+◌, ◌-◌, ◌*◌, ◌/◌, ◌%◌, ◌^◌, ◌<◌, List, [], ◌∷◌, ◌++◌, length, take, fold, refl, sym, ap, ap₂, ◌∙◌, inl, inr, arith, lit<, mod-mod, mod-add-mod, add-mul-mod_self_left, pow-zero, cases_lt, fold-append, mul-pow, pow-add, pow-mod, le, prime61, words, words_from, poly_step, poly_hash, poly_state, Position, byte_in, start_at, after, full_words, poly_end, as_word, joined_value, poly61, behind, byte_behind, byte_fills, byte_in-full, byte_in-part, poly_end-from, poly_end-is, pow-suc, length-append}
+use Rattle.std.proofs.lemmas.Bool.Decides.{nat_tests}
+use Rattle.hash_keyed.proofs.Common.{ℕ, zero, suc, ◌≡◌, ◌≢◌, ◌+◌, ◌-◌, ◌*◌, ◌/◌, ◌%◌, ◌^◌, ◌<◌, List, [], ◌∷◌, ◌++◌, length, take, fold, refl, sym, ap, ap₂, ◌∙◌, inl, inr, arith, mod-mod, mod-add-mod, add-mul-mod_self_left, pow-zero, cases_lt, fold-append, mul-pow, pow-add, pow-mod, le, prime61, words, words_from, poly_step, poly_hash, poly_state, Position, byte_in, start_at, after, full_words, poly_end, as_word, joined_value, poly61, behind, byte_behind, byte_fills, byte_in-full, byte_in-part, poly_end-from, poly_end-is, pow-suc, length-append, common_steps}
 use Rattle.hash_keyed.proofs.ByWords.{after-few}
 use Rattle.hash_keyed.proofs.Collisions.{value-lt}
 use Rattle.hash_keyed.proofs.Encoding.{length-words}
@@ -9,9 +10,7 @@ use Rattle.hash_keyed.proofs.Powers.{same-add, same-mul}
 
 -- the square to a power
 square-pow : (p s t k : ℕ) → t % p ≡ (s * s) % p → t ^ k % p ≡ s ^ (k + k) % p
-square-pow p s t k same =
-    sym (pow-mod t k p) ∙ ap (λ z. z ^ k % p) same ∙ pow-mod (s * s) k p
-    ∙ ap (λ z. z % p) (mul-pow s s k ∙ sym (pow-add s k k))
+square-pow p s t k same = grind (arith, nat_tests, common_steps, pow-mod t k p, pow-mod (s * s) k p, mul-pow s s k, pow-add s k k)
 
 -- one digit of the exponent
 pub power_odd : (p r q s t l : ℕ) → l % 2 ≡ 1 → q % p ≡ (r * s) % p → t % p ≡ (s * s) % p → (q * t ^ (l / 2)) % p ≡ (r * s ^ l) % p
@@ -52,10 +51,7 @@ whole_there (suc r) key state kept (byte ∷ text) room whole =
 
 pub after-whole : (key : ℕ) (text : List ℕ) → length text % 7 ≡ 0 → after (start_at key) text ≡ behind key (poly_state prime61 key text) []
 unfolding le
-after-whole key text whole =
-    whole_there 6 key 1 [] text (omega arith) (omega arith)
-    ∙ ap (λ n. behind key (fold (poly_step prime61 key) 1 (take n (words text))) []) (let e : (0 + length text) / 7
-    ≡ length text / 7 = omega arith in e)
+after-whole key text whole = grind (arith, nat_tests, common_steps, whole_there 6 key 1)
 
 -- how many bytes are behind the full words
 after-count : (at : Position) (text : List ℕ) → at.count < 7 → (after at text).count ≡ (at.count + length text) % 7
@@ -72,12 +68,7 @@ after-count at (byte ∷ text) few = elim (cases_lt at.count 6) [
 module _ (key t : ℕ) (text last : List ℕ) (led : after (full_words key 1) text
     ≡ after (full_words key t) last) (few : length last < 7) where
   pub rest-length : length text % 7 ≡ length last
-  rest-length =
-      omega (
-        arith,
-        after-count (full_words key 1) text (lit< tt),
-        ap (λ (a : Position). a.count) (led ∙ after-few key t last few),
-      )
+  rest-length = grind (arith, nat_tests, common_steps, after-count, after-few)
 
   pub state_is : length last ≡ 0 → t % prime61 ≡ poly_state prime61 key text
   state_is none =
@@ -142,6 +133,4 @@ joined_is key state1 before power value hash2 e r before_is power_is value_is r_
     let first : before % p ≡ (state1 + (p - 1)) % p =
     ap (λ z. z % p) before_is ∙ mod-mod (state1 % p + (p - 1)) p ∙ mod-add-mod state1 p (p - 1) in
     let last : value % p ≡ hash2 % 2 ^ 61 % p = ap (λ z. z % p) value_is ∙ mod-mod (hash2 % 2 ^ 61) p in
-    r_is
-    ∙ same-add p (before * power) value ((state1 + (p - 1)) * key ^ e) (hash2 % 2 ^ 61)
-    (same-mul p before power (state1 + (p - 1)) (key ^ e) first power_is) last
+    grind (arith, nat_tests, common_steps, same-mul p before power (state1 + (p - 1)) (key ^ e) first power_is)

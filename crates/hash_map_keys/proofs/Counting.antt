@@ -1,12 +1,12 @@
 -- Counting keys, of any form, by a number that each has.
-use Rattle.hash_map_keys.proofs.Common.{ℕ, All, All-cons, All-head, All-map, All-nil, All-tail, AllPairs, AllPairs-cons, Any-from_list_any, Bool, Decides-eqb, IsDistinct-from_AllPairs, List, [], ap, arith, cases_Bool, cases_lt, cond, count_by, eq-eqb, eqb, eqb-true, eqb_tells, false, get_or, get_or-map, inl, inr, length, length-le_from_distinct_below, length-map, list_any, map, nat_eq, refl, suc, sum_by-cons, sym, true, zero, ◌*◌, ◌+◌, ◌<◌, ◌∙◌, ◌∷◌, ◌≡◌, ◌≢◌, ◌≤◌}
+use Rattle.std.proofs.lemmas.Grind.{common_steps}
+use Rattle.std.proofs.lemmas.Bool.Decides.{nat_tests}
+use Rattle.hash_map_keys.proofs.Common.{ℕ, All, All-cons, All-head, All-map, All-nil, All-tail, AllPairs, AllPairs-cons, Any-from_list_any, Bool, Decides-eqb, IsDistinct-from_AllPairs, List, [], ap, arith, cases_Bool, cases_lt, cond, count_by, eq-eqb, eqb, eqb-true, eqb_tells, false, get_or, get_or-map, inl, inr, length, length-le_from_distinct_below, length-map, list_any, map, nat_eq, refl, suc, sum_by-cons, sym, true, zero, ◌*◌, ◌+◌, ◌<◌, ◌∷◌, ◌≡◌, ◌≢◌, ◌≤◌}
 
 -- ---- by a number that tells a key
 
 below_all : (n : ℕ) (xs : List ℕ) → All (λ x. x < n) xs → (q : ℕ) → list_any (eqb q) xs ≡ true → q < n
-below_all n xs below q found =
-    let (k, x, k_in, there, same) = Any-from_list_any (eqb q) xs found in
-    omega (arith, eqb-true q x same, there, below k x k_in)
+below_all n xs below q found = grind (arith, nat_tests, common_steps, Any-from_list_any, eqb-true)
 
 count_from : {X : Type 0} (any : X) (holds : X → Type 0) (f : X → ℕ) (n : ℕ) (keys : List X) → AllPairs ◌≢◌ keys → All holds keys
     → ((k : X) → holds k → f k < n) → ((k l : X) → holds k → holds l → f k ≡ f l → k ≡ l) → length keys ≤ n
@@ -15,9 +15,7 @@ count_from any holds f n keys differ all below tells =
     let apart : AllPairs ◌≢◌ (map f keys) = λ i j d less within.
     let i_in : i < length keys = omega (arith, less, within, long) in
     let j_in : j < length keys = omega (arith, within, long) in
-    λ same. differ i j any less j_in
-    (tells (get_or keys i any) (get_or keys j any) (all i any i_in) (all j any j_in)
-    (sym (get_or-map f keys i any d i_in) ∙ same ∙ get_or-map f keys j any d j_in)) in
+    grind (arith, nat_tests, common_steps, get_or-map f keys i any d i_in, get_or-map f keys j any d j_in) in
     let few = length-le_from_distinct_below (map f keys) n (IsDistinct-from_AllPairs Decides-eqb (map f keys) apart)
     (below_all n (map f keys) (All-map (λ x. x < n) f keys (λ k d h. below (get_or keys k d) (all k d h)))) in
     omega (arith, few, long)
@@ -58,10 +56,7 @@ is_same v = ap (λ b. cond b 1 0) (eq-eqb v v refl)
 
 is_other : (v c : ℕ) → v ≢ c → is v c ≡ 0
 unfolding is
-is_other v c differ = elim (eqb_tells v c) [
-  | inl same ↦ absurd (differ same.1)
-  | inr other ↦ ap (λ b. cond b 1 0) other.0
-]
+is_other v c differ = grind (arith, nat_tests, common_steps, eqb_tells)
 
 past : (v n : ℕ) → n ≤ v → total (is v) n ≡ 0
 unfolding total
@@ -107,18 +102,12 @@ module _ (mark : ℕ → Bool) where
   those_below zero = All-nil (λ c. c < 0)
   those_below (suc n) =
       let before : All (λ c. c < suc n) (those mark n) = λ i d h. omega (arith, those_below n i d h) in
-      elim (cases_Bool (mark n)) [
-        | inl has ↦ rw has (All-cons (λ c. c < suc n) n (those mark n) (omega arith) before)
-        | inr lacks ↦ rw lacks before
-      ]
+      grind (arith, nat_tests, common_steps, cases_Bool, All-cons, those)
 
   pub those_marked : (n : ℕ) → All (λ c. mark c ≡ true) (those mark n)
   unfolding those
   those_marked zero = All-nil (λ c. mark c ≡ true)
-  those_marked (suc n) = elim (cases_Bool (mark n)) [
-    | inl has ↦ rw has (All-cons (λ c. mark c ≡ true) n (those mark n) has (those_marked n))
-    | inr lacks ↦ rw lacks (those_marked n)
-  ]
+  those_marked (suc n) = grind (arith, nat_tests, common_steps, cases_Bool (mark n), those mark n, those_marked n)
 
   pub those_differ : (n : ℕ) → AllPairs ◌≢◌ (those mark n)
   unfolding those
@@ -139,10 +128,7 @@ module _ (mark : ℕ → Bool) where
         ap (λ b. length (cond b (n ∷ those mark n) (those mark n))) has in
         omega (arith, one, ap (λ k. k * extra) longer, sum_of_those extra n)
     | inr lacks ↦
-        let one : cond (mark n) extra 0 ≡ 0 = ap (λ b. cond b extra 0) lacks in
-        let same : length (cond (mark n) (n ∷ those mark n) (those mark n)) ≡ length (those mark n) =
-        ap (λ b. length (cond b (n ∷ those mark n) (those mark n))) lacks in
-        omega (arith, one, ap (λ k. k * extra) same, sum_of_those extra n)
+        grind (arith, nat_tests, common_steps, those mark n, sum_of_those extra n)
   ]
 
 bounded_but : (g h : ℕ → ℕ) (most n : ℕ) → ((c : ℕ) → c < n → g c ≤ most + h c) → total g n ≤ n * most + total h n
@@ -186,10 +172,7 @@ module _ {X : Type 0} (f : X → ℕ) where
       → length keys ≤ n * most + length (those mark n) * extra
   few_but_those mark n most extra keys below few all =
       let each : (c : ℕ) → c < n → count_by (having c) keys ≤ most + cond (mark c) extra 0 =
-      λ c c_in. elim (cases_Bool (mark c)) [
-        | inl has ↦ omega (arith, all c c_in, ap (λ b. cond b extra 0) has)
-        | inr lacks ↦ omega (arith, few c c_in lacks)
-      ] in
+      grind (arith, nat_tests, common_steps, cases_Bool) in
       omega (
         arith,
         counted n keys below,

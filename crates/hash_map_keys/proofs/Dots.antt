@@ -1,4 +1,7 @@
 -- The words of a key of a map, and what its bytes add to the sum.
+use Rattle.std.proofs.lemmas.Grind.{common_steps}
+use Rattle.std.proofs.lemmas.Bool.Decides.{nat_tests}
+use Rattle.std.proofs.Common.{rules}
 use Rattle.hash_map_keys.proofs.Common.{All, All-append, All-cons, All-drop, All-nil, All-take, AreWords, IsByte, IsText, List, None, [], ap, ap₂, arith, cases_lt, dot, drop, drop_of_length-le, eights, if◌then◌else◌, inl, inr, key_words, last_word, le, le-few, le-ltb, length, length-append, length-take, length-take-le, lt-ltb, min, nat_lt, poly61, poly61-is, prime61, refl, rest_after, share, slice_index, suc, sym, take, take-add, take_all, word_of, zero, ℕ, ◌%◌, ◌*◌, ◌++◌, ◌+◌, ◌<◌, ◌^◌, ◌∙◌, ◌∷◌, ◌≡◌, ◌≤◌}
 use Rattle.hash_map_keys.proofs.Shares.{nothing_more, one_word, share-append}
 
@@ -44,14 +47,8 @@ eights_share t (suc n) j bytes =
     let split : take (8 * suc n) bytes ≡ first ++ more =
     ap (λ k. take k bytes) (let e : 8 * suc n ≡ 8 + 8 * n = omega arith in e) ∙ take-add 8 (8 * n) bytes in
     let few : length first ≤ 8 = omega (arith, length-take 8 bytes) in
-    let others : share t (8 * suc j) more ≡ share t (8 * j + length first) more = elim (cases_lt (length bytes) 8) [
-      | inr many ↦ ap (λ k. share t k more) (let e : 8 * suc j ≡ 8 * j + length first = omega (arith, length-take-le 8 bytes many) in e)
-      | inl less ↦
-          let none : more ≡ [] =
-          ap (take (8 * n)) (drop_of_length-le bytes (let l : length bytes ≤ 8 = omega (arith, less) in l)) ∙ take_all (8 * n) [] (omega arith) in
-          ap (share t (8 * suc j)) none ∙ nothing_more t (8 * suc j) ∙ sym (nothing_more t (8 * j + length first))
-          ∙ ap (share t (8 * j + length first)) (sym none)
-    ] in
+    let others : share t (8 * suc j) more ≡ share t (8 * j + length first) more =
+    grind (arith, nat_tests, common_steps, cases_lt, length-take-le, drop_of_length-le, take_all, nothing_more) in
     ap (λ z. slice_index t j * le first + z) (eights_share t n (suc j) (drop 8 bytes) ∙ others)
     ∙ ap (λ z. z + share t (8 * j + length first) more) (sym (one_word t j first few))
     ∙ sym (share-append t (8 * j) first more) ∙ ap (share t (8 * j)) (sym split)
@@ -84,12 +81,7 @@ last_in key [] = omega arith
 last_in key (byte ∷ bytes) = poly61_in key (byte ∷ bytes)
 
 pub key_words_are : (key : ℕ) (bytes : List ℕ) → IsText bytes → AreWords 17 (key_words key bytes)
-key_words_are key bytes are =
-    let w = last_word key (drop 128 bytes) in (
-      omega (arith, length-append (eights 16 bytes) (w ∷ []), length-eights 16 bytes),
-      All-append (λ v. v < 2 ^ 64) (eights 16 bytes) (w ∷ []) (eights_are 16 bytes are)
-          (All-cons (λ v. v < 2 ^ 64) w [] (last_in key (drop 128 bytes)) (All-nil (λ v. v < 2 ^ 64))),
-    )
+key_words_are key bytes are = search (rules, length-append, length-eights, All-append, eights_are, All-cons, last_in, All-nil)
 
 -- ---- the bytes behind the first 128
 

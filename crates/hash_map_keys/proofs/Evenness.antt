@@ -1,4 +1,6 @@
 -- Each pair of hashes of two sums that differ in a word comes from few keys: the words differ by a power of two times an odd number.
+use Rattle.std.proofs.lemmas.Grind.{common_steps}
+use Rattle.std.proofs.lemmas.Bool.Decides.{nat_tests}
 use Rattle.hash_map_keys.proofs.Common.{ℕ, All, AllPairs, List, ap, ap₂, arith, cases_order, div-add-mod, div-eq_of_lt, div-lt_iff_lt-mul, inl, inr, le_of_mul-le-mul_left, length, lit<, mod-lt, mul-add-lt, pow-add, pow_pos, subst, sym, ◌%◌, ◌*◌, ◌+◌, ◌-◌, ◌/◌, ◌<◌, ◌^◌, ◌∙◌, ◌≡◌, ◌≢◌, ◌≤◌}
 use Rattle.hash_map_keys.proofs.Counting.{count}
 use Rattle.hash_map_keys.proofs.Odds.{parts_of, rest_from, rows, same_by_places, same_in_row}
@@ -8,42 +10,32 @@ use Rattle.hash_map_keys.proofs.Odds.{parts_of, rest_from, rows, same_by_places,
 -- a remainder modulo a multiple
 inner : (n s t : ℕ) → n % (s * t) % s ≡ n % s
 inner n s t =
-    let whole = div-add-mod n (s * t) in
-    let e : n % (s * t) + s * (t * (n / (s * t))) ≡ n + s * 0 = omega (arith, whole) in
+    let e : n % (s * t) + s * (t * (n / (s * t))) ≡ n + s * 0 = omega arith in
     rest_from s (n % (s * t)) n (t * (n / (s * t))) 0 e
 
 -- equal products by a factor
 cancel : (s a b : ℕ) → 0 < s → s * a ≡ s * b → a ≡ b
-cancel s a b some same =
-    let one : a ≤ b = le_of_mul-le-mul_left (let l : s * a ≤ s * b = omega (arith, same) in l) some in
-    let two : b ≤ a = le_of_mul-le-mul_left (let l : s * b ≤ s * a = omega (arith, same) in l) some in
-    omega (arith, one, two)
+cancel s a b some same = grind (arith, nat_tests, common_steps, le_of_mul-le-mul_left)
 
 -- an addend from its sum
 pub same_addend : (z b d : ℕ) → b < 2 ^ 128 → d < 2 ^ 128 → (z + b) % 2 ^ 128 ≡ (z + d) % 2 ^ 128 → b ≡ d
-same_addend z b d b_in d_in same =
-    let e : b * (2 * 0 + 1) + z ≡ z + b = omega arith in
-    let g : z + d ≡ d * (2 * 0 + 1) + z = omega arith in
-    same_in_row 128 0 z b d (div-eq_of_lt b_in ∙ sym (div-eq_of_lt d_in))
-    (ap (λ k. k % 2 ^ 128) e ∙ same ∙ ap (λ k. k % 2 ^ 128) g)
+same_addend z b d b_in d_in same = grind (arith, nat_tests, common_steps, same_in_row, div-eq_of_lt)
 
 -- two pairs of sums, whose differences are the same but for s * g and s * h
 module _ (s n a b g a2 b2 h c d : ℕ) (some : 0 < s) (one : a + d ≡ b + c + s * g) (two : a2 + d ≡ b2 + c + s * h)
     (firsts : a % (s * n) ≡ a2 % (s * n)) where
   lows_same : b % s ≡ b2 % s
   lows_same =
-      let first = rows (s * n) a a2 firsts in
-      let e : b + s * (g + n * (a2 / (s * n))) ≡ b2 + s * (h + n * (a / (s * n))) = omega (arith, one, two, first) in
+      let e : b + s * (g + n * (a2 / (s * n))) ≡ b2 + s * (h + n * (a / (s * n))) = omega (arith, one, two) in
       rest_from s b b2 (g + n * (a2 / (s * n))) (h + n * (a / (s * n))) e
 
   terms_same : b % (s * n) ≡ b2 % (s * n) → g % n ≡ h % n
   terms_same seconds =
       let m = s * n in
       let first = rows m a a2 firsts in
-      let second = rows m b b2 seconds in
       let x = a2 / m + b / m in
       let y = a / m + b2 / m in
-      let e : s * (g + n * x) ≡ s * (h + n * y) = omega (arith, one, two, first, second) in
+      let e : s * (g + n * x) ≡ s * (h + n * y) = omega (arith, one, two, first) in
       rest_from n g h x y (cancel s (g + n * x) (h + n * y) some e)
 
 -- ---- one key
@@ -95,9 +87,7 @@ module _ {R : Type 0} (many : ℕ) (mark : R → ℕ) (valid : R → Type 0) (ma
     row_in a a_in = (div-lt_iff_lt-mul (pow_pos (128 - s))).1 (subst (λ k. a < k) all_is a_in)
 
     part_in : (v : ℕ) → v % 2 ^ 64 / 2 ^ s < t
-    part_in v =
-        let e : 2 ^ s * t ≡ t * 2 ^ s = omega arith in
-        (div-lt_iff_lt-mul (pow_pos s)).1 (subst (λ k. v % 2 ^ 64 < k) (half_is ∙ e) (mod-lt v (lit< tt)))
+    part_in v = grind (arith, nat_tests, common_steps, div-lt_iff_lt-mul, pow_pos, half_is, mod-lt)
 
     code_in : (key : Parts) → AreParts key → code key < many * 2 ^ 128
     code_in key is =

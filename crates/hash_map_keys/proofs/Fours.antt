@@ -1,5 +1,7 @@
 -- Up to eight bytes by the first four and the last four, or by the last eight of more.
-use Rattle.hash_map_keys.proofs.Common.{All-drop, All-take, IsByte, IsText, List, [], add_comm, ap, arith, drop, drop-drop, le-append, le-power, length, length-drop, length-take-le, lit<, shr_high, subst, sym, take, take-append-drop, ℕ, ◌%◌, ◌*◌, ◌+◌, ◌-◌, ◌/◌, ◌<◌, ◌^◌, ◌∙◌, ◌∷◌, ◌≡◌, ◌≤◌}
+use Rattle.std.proofs.lemmas.Grind.{common_steps}
+use Rattle.std.proofs.lemmas.Bool.Decides.{nat_tests}
+use Rattle.hash_map_keys.proofs.Common.{All-drop, All-take, IsText, List, [], add_comm, ap, arith, drop, drop-drop, le-append, le-power, length, length-drop, length-take-le, lit<, shr_high, sym, take, take-append-drop, ℕ, ◌%◌, ◌*◌, ◌+◌, ◌-◌, ◌/◌, ◌^◌, ◌∙◌, ◌∷◌, ◌≡◌, ◌≤◌}
 use Rattle.hash_words.specs.Words.{le}
 
 -- four to eight bytes by the first four and the last four
@@ -27,7 +29,4 @@ of_last t k are long few =
     let whole : le last ≡ le back * 2 ^ (64 - 8 * k) + le front =
     ap le (sym (take-append-drop (8 - k) last)) ∙ le-append front back ∙ add_comm (le front) (le back * 2 ^ (8 * length front))
     ∙ ap (λ n. le back * 2 ^ n + le front) bits in
-    let front_is = All-take IsByte (8 - k) last (All-drop IsByte (length t - 8) t are) in
-    ap (λ n. n / 2 ^ (64 - 8 * k)) whole
-    ∙ shr_high (le back) (64 - 8 * k) (le front) (subst (λ n. le front < 2 ^ n) bits (le-power front front_is))
-    ∙ ap le (drop-drop (8 - k) (length t - 8) t ∙ ap (λ n. drop n t) (let e : length t - 8 + (8 - k) ≡ length t - k = omega (arith, long, few) in e))
+    grind (arith, nat_tests, common_steps, All-take, All-drop, shr_high, le-power, drop-drop)

@@ -1,22 +1,13 @@
 -- What follows where each pair of hashes of two keys of a map comes from no more keys than its share: keys of any form.
-use Rattle.hash_map_keys.proofs.Common.{ℕ, All, All-filter, All-head, AllPairs, AllPairs-filter, List, [], ap, ap₂, arith, both_true, cond, count_by, div-add-mod, div-div-eq-div-mul, div-eq_of_lt, eq-eqb, eqb-true, eqb_tells, filter, filter_passes, get_or, have_hashes, inl, inr, length, length-filter, mod-lt, mul-add-lt, nat_eq, pow-add, pow_pos, subst, sum_by-same, sym, ◌%◌, ◌&&◌, ◌*◌, ◌+◌, ◌-◌, ◌/◌, ◌<◌, ◌^◌, ◌∙◌, ◌∷◌, ◌≡◌, ◌≢◌, ◌≤◌}
+use Rattle.std.proofs.lemmas.Grind.{common_steps}
+use Rattle.std.proofs.lemmas.Bool.Decides.{nat_tests}
+use Rattle.hash_map_keys.proofs.Common.{ℕ, All, All-filter, All-head, AllPairs, AllPairs-filter, List, [], ap, arith, cond, count_by, div-add-mod, div-div-eq-div-mul, div-eq_of_lt, eq-eqb, eqb-true, eqb_tells, filter, filter_passes, get_or, have_hashes, length, length-filter, mod-lt, mul-add-lt, nat_eq, pow-add, pow_pos, subst, sum_by-same, sym, ◌%◌, ◌&&◌, ◌*◌, ◌+◌, ◌-◌, ◌/◌, ◌<◌, ◌^◌, ◌∙◌, ◌∷◌, ◌≡◌, ◌≢◌, ◌≤◌}
 use Rattle.hash_map_keys.proofs.Counting.{few_in_all, having, just_its_share}
 use Rattle.hash_map_keys.proofs.Odds.{same_by_places}
 
 -- two numbers are a number of two places
 as_places : (a b u v : ℕ) → b < 2 ^ 64 → v < 2 ^ 64 → nat_eq (a * 2 ^ 64 + b) (u * 2 ^ 64 + v) ≡ (nat_eq a u && nat_eq b v)
-as_places a b u v b_in v_in = elim (eqb_tells (a * 2 ^ 64 + b) (u * 2 ^ 64 + v)) [
-  | inl same ↦
-      let places = same_by_places (2 ^ 64) a u b v b_in v_in same.1 in
-      same.0 ∙ sym (both_true (eq-eqb a u places.0) (eq-eqb b v places.1))
-  | inr differ ↦ differ.0 ∙ elim (eqb_tells a u) [
-    | inr one ↦ sym (ap (λ t. t && nat_eq b v) one.0)
-    | inl first ↦ elim (eqb_tells b v) [
-      | inr two ↦ sym (ap₂ (λ s t. s && t) first.0 two.0)
-      | inl second ↦ absurd (differ.1 (ap₂ (λ s t. s * 2 ^ 64 + t) first.1 second.1))
-    ]
-  ]
-]
+as_places a b u v b_in v_in = grind (arith, nat_tests, common_steps, eqb_tells, same_by_places, eq-eqb)
 
 module _ {X Y : Type 0} (is : X → Type 0) (hash : X → Y → ℕ) (hash_in : (k : X) (z : Y) → hash k z < 2 ^ 64) (e : ℕ) (x y : Y)
     (even : (u v : ℕ) (keys : List X) → All is keys → AllPairs ◌≢◌ keys → All (λ k. (hash k x ≡ u) × (hash k y ≡ v)) keys
@@ -67,9 +58,7 @@ module _ {X Y : Type 0} (is : X → Type 0) (hash : X → Y → ℕ) (hash_in : 
         let kept = filter test keys in
         let few = even (i / 2 ^ 64) (i % 2 ^ 64) kept (All-filter test is keys are) (AllPairs-filter ◌≢◌ test keys differ)
         (λ j any h.
-        let k = get_or kept j any in
-        let same = eqb-true (both k) i (filter_passes test keys j any h) in
-        (omega (arith, same, hash_in k y), omega (arith, same, hash_in k y))) in
+        grind (arith, nat_tests, common_steps, eqb-true, both, filter_passes)) in
         omega (arith, few, length-filter test keys)) all (mul-add-lt u (2 ^ 64) v (2 ^ 64) u_in v_in)
 
   module _ (lower upper : ℕ) (within : lower + upper ≤ 64) where
@@ -78,9 +67,7 @@ module _ {X Y : Type 0} (is : X → Type 0) (hash : X → Y → ℕ) (hash_in : 
     m = 2 ^ (64 - lower - upper)
 
     number_is : m * 2 ^ 64 * 2 ^ e ≡ 2 ^ (e + 128 - lower - upper)
-    number_is =
-        let there : 64 - lower - upper + 64 + e ≡ e + 128 - lower - upper = omega (arith, within) in
-        ap (λ k. k * 2 ^ e) (sym (pow-add 2 (64 - lower - upper) 64)) ∙ sym (pow-add 2 (64 - lower - upper + 64) e) ∙ ap (λ k. 2 ^ k) there
+    number_is = grind (arith, nat_tests, common_steps, pow-add 2 (64 - lower - upper) 64, pow-add 2 (64 - lower - upper + 64) e)
 
     -- the bits between the low and the high ones
     abbrev middle : ℕ → ℕ
@@ -90,9 +77,7 @@ module _ {X Y : Type 0} (is : X → Type 0) (hash : X → Y → ℕ) (hash_in : 
     middle_in v = mod-lt (v / 2 ^ lower) (pow_pos (64 - lower - upper))
 
     high_is : (v : ℕ) → v / 2 ^ lower / m ≡ v / 2 ^ (64 - upper)
-    high_is v =
-        let e : lower + (64 - lower - upper) ≡ 64 - upper = omega (arith, within) in
-        div-div-eq-div-mul v (2 ^ lower) m ∙ ap (λ k. v / k) (sym (pow-add 2 lower (64 - lower - upper)) ∙ ap (λ k. 2 ^ k) e)
+    high_is v = grind (arith, nat_tests, common_steps, div-div-eq-div-mul v (2 ^ lower) m, pow-add 2 lower (64 - lower - upper))
 
     Share : ℕ → ℕ → Type 0
     Share u v = (u % 2 ^ lower ≡ v % 2 ^ lower) × (u / 2 ^ (64 - upper) ≡ v / 2 ^ (64 - upper))
@@ -101,11 +86,7 @@ module _ {X Y : Type 0} (is : X → Type 0) (hash : X → Y → ℕ) (hash_in : 
     unfolding Share
     same_both u v w z v_in z_in one two same =
         let places = same_by_places m u w (middle v) (middle z) (middle_in v) (middle_in z) same in
-        let lows = sym one.0 ∙ ap (λ k. k % 2 ^ lower) places.0 ∙ two.0 in
-        let highs = high_is v ∙ sym one.1 ∙ ap (λ k. k / 2 ^ (64 - upper)) places.0 ∙ two.1 ∙ sym (high_is z) in
-        let rests : v / 2 ^ lower ≡ z / 2 ^ lower =
-        omega (arith, div-add-mod (v / 2 ^ lower) m, div-add-mod (z / 2 ^ lower) m, ap (λ k. m * k) highs, places.1) in
-        (places.0, omega (arith, div-add-mod v (2 ^ lower), div-add-mod z (2 ^ lower), lows, ap (λ k. 2 ^ lower * k) rests))
+        grind (arith, nat_tests, common_steps, high_is, div-add-mod)
 
     pub share_both : (keys : List X) → All is keys → AllPairs ◌≢◌ keys
         → All (λ k. (hash k x % 2 ^ lower ≡ hash k y % 2 ^ lower) × (hash k x / 2 ^ (64 - upper) ≡ hash k y / 2 ^ (64 - upper))) keys

@@ -1,4 +1,5 @@
 -- The laws of two different lists of n words, at n multipliers and an addend.
+use Rattle.std.proofs.lemmas.Grind.{common_steps}
 use Rattle.hash_map_keys.proofs.Common.{ℕ, ap, All, AllPairs, AreTables, AreWords, List, [], ap₂, arith, cond, count_by, dot, have_hashes, le_of_mul-le-mul_left, length, meetings, mul-le, number_hash, pair_hash, pow-add, share_place, suc, sum_by, sum_by-cons, sym, words_hash, ◌%◌, ◌*◌, ◌+◌, ◌-◌, ◌/◌, ◌<◌, ◌^◌, ◌∙◌, ◌∷◌, ◌≡◌, ◌≢◌, ◌≤◌}
 use Rattle.std.proofs.Common.{mul_assoc, nat_lt}
 use Rattle.std.proofs.Math.Nat.{mul-div-le}
@@ -107,9 +108,7 @@ module _ (n : ℕ) (texts : List (List ℕ)) (bits : ℕ) (keys : List Table) (a
 
 pub pair_words : (a a2 b x : ℕ) → pair_hash a a2 b x ≡ words_hash (a ∷ a2 ∷ []) b (x % 2 ^ 64 ∷ x / 2 ^ 64 ∷ [])
 unfolding dot
-pair_words a a2 b x =
-    ap (λ z. z % 2 ^ 128 / 2 ^ 64)
-    (let e : a * (x % 2 ^ 64) + a2 * (x / 2 ^ 64) + b ≡ a * (x % 2 ^ 64) + (a2 * (x / 2 ^ 64) + 0) + b = omega arith in e)
+pair_words a a2 b x = grind (arith, nat_tests, common_steps)
 
 pub number_words : (a b x : ℕ) → number_hash a b x ≡ words_hash (a ∷ []) b (x ∷ [])
 unfolding dot

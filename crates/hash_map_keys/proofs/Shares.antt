@@ -1,15 +1,15 @@
 -- What bytes add to a sum, by the words that they stand in.
-use Rattle.hash_map_keys.proofs.Common.{All-cons, All-nil, All-take, IsByte, IsText, IsText-le_bytes, IsText-to_le_bytes, List, MapHasher, None, Option, Position, Some, [], add_comm, after, after_write, answer_of, ap, append-nil, ap₂, arith, as_word, byte_in, cases_lt, drop, drop-append-add, drop-append-le, drop_min, drop_of_length-le, fold-append, if◌then◌else◌, inl, inr, le, le-append, le-begins, le-le_bytes, le-ltb, le-power, le-same, le-to_le_bytes-64, le_bytes, length, length-append, length-drop, length-le_bytes, length-take, length-take-le, lt-ltb, min, mod-eq_of_lt, mul-le, nil_from_length, poly_end, pow-add, pow_mono, pow_pos, prime61, refl, rest_after, share, shr_high, slice_index, start_at, subst, suc, sym, take, take-append-add, take-append-drop, take-append-le, take-length, take_all, take_min, to_le_bytes, w64, word_of, ℕ, ◌%◌, ◌*◌, ◌++◌, ◌+◌, ◌-◌, ◌/◌, ◌<◌, ◌^◌, ◌∙◌, ◌∷◌, ◌≡◌, ◌≢◌, ◌≤◌}
+use Rattle.std.proofs.lemmas.Grind.{common_steps}
+use Rattle.std.proofs.lemmas.Bool.Decides.{nat_tests}
+use Rattle.std.proofs.Common.{rules}
+use Rattle.hash_map_keys.proofs.Common.{All-cons, All-nil, All-take, IsByte, IsText, IsText-le_bytes, IsText-to_le_bytes, List, MapHasher, None, Option, Position, Some, [], add_comm, after, after_write, answer_of, ap, append-nil, ap₂, arith, as_word, byte_in, cases_lt, drop, drop-append-add, drop-append-le, drop_min, drop_of_length-le, fold-append, inl, inr, le, le-append, le-begins, le-le_bytes, le-ltb, le-power, le-same, le-to_le_bytes-64, le_bytes, length, length-append, length-drop, length-le_bytes, length-take, length-take-le, lt-ltb, min, mod-eq_of_lt, mul-le, nil_from_length, poly_end, pow-add, pow_mono, pow_pos, prime61, refl, rest_after, share, shr_high, slice_index, start_at, subst, suc, sym, take, take-append-add, take-append-drop, take-append-le, take-length, take_all, take_min, to_le_bytes, w64, word_of, ℕ, ◌%◌, ◌*◌, ◌++◌, ◌+◌, ◌-◌, ◌/◌, ◌<◌, ◌^◌, ◌∙◌, ◌∷◌, ◌≡◌, ◌≢◌, ◌≤◌}
 
 -- ---- sums
 
 pub share-append : (t : List ℕ) (at : ℕ) (xs ys : List ℕ) → share t at (xs ++ ys) ≡ share t at xs + share t (at + length xs) ys
 unfolding share
 share-append t at [] ys = omega (arith, ap (λ k. share t k ys) (let e : at ≡ at + 0 = omega arith in e))
-share-append t at (x ∷ xs) ys =
-    let there : share t (suc at + length xs) ys ≡ share t (at + suc (length xs)) ys =
-    ap (λ k. share t k ys) (let e : suc at + length xs ≡ at + suc (length xs) = omega arith in e) in
-    omega (arith, share-append t (suc at) xs ys, there)
+share-append t at (x ∷ xs) ys = grind (arith, nat_tests, common_steps, share-append t (suc at) xs ys)
 
 next_place : (o : ℕ) → 2 ^ (8 * suc o) ≡ 2 ^ (8 * o) * 256
 next_place o = ap (λ k. 2 ^ k) (let e : 8 * suc o ≡ 8 * o + 8 = omega arith in e) ∙ pow-add 2 (8 * o) 8
@@ -55,18 +55,11 @@ piece_more t sum at k number rest are value within few =
     ap (λ n. n * 2 ^ (8 * (at % 8)) % 2 ^ 64) value ∙ placed (take k rest) (at % 8) are room in
     let piece : slice_index t (at / 8) * (number * 2 ^ (8 * (at % 8)) % 2 ^ 64) ≡ share t at (take k rest) =
     ap (λ n. slice_index t (at / 8) * n) whole ∙ sym (piece_in t at (take k rest) room) in
-    let both : share t at rest ≡ share t at (take k rest) + share t (at + k) (drop k rest) =
-    ap (share t at) (sym (take-append-drop k rest)) ∙ share-append t at (take k rest) (drop k rest)
-    ∙ ap (λ n. share t at (take k rest) + share t (at + n) (drop k rest)) long in
-    omega (arith, piece, both)
+    grind (arith, nat_tests, common_steps, take-append-drop k rest, share-append t at (take k rest) (drop k rest))
 
 -- no more than eight bytes, which begin a word
 pub one_word : (t : List ℕ) (j : ℕ) (bytes : List ℕ) → length bytes ≤ 8 → share t (8 * j) bytes ≡ slice_index t j * le bytes
-one_word t j bytes few =
-    let place : 8 * j % 8 ≡ 0 = omega arith in
-    let word : 8 * j / 8 ≡ j = omega arith in
-    piece_in t (8 * j) bytes (omega (arith, few, place)) ∙ ap₂ (λ k o. slice_index t k * (le bytes * 2 ^ (8 * o))) word place
-    ∙ ap (λ z. slice_index t j * z) (let e : le bytes * 1 ≡ le bytes = omega arith in e)
+one_word t j bytes few = grind (arith, nat_tests, common_steps, piece_in)
 
 pub word_last : (t : List ℕ) (sum j number : ℕ) (rest : List ℕ) → number ≡ le rest → length rest ≤ 8
     → (sum + slice_index t j * number) % 2 ^ 128 ≡ (sum + share t (8 * j) rest) % 2 ^ 128
@@ -80,20 +73,13 @@ word_more t sum j number rest value within =
     let long = length-take-le 8 rest within in
     let piece : slice_index t j * number ≡ share t (8 * j) (take 8 rest) =
     ap (λ n. slice_index t j * n) value ∙ sym (one_word t j (take 8 rest) (omega (arith, long))) in
-    let both : share t (8 * j) rest ≡ share t (8 * j) (take 8 rest) + share t (8 * (j + 1)) (drop 8 rest) =
-    ap (share t (8 * j)) (sym (take-append-drop 8 rest)) ∙ share-append t (8 * j) (take 8 rest) (drop 8 rest)
-    ∙ ap (λ k. share t (8 * j) (take 8 rest) + share t k (drop 8 rest)) (let e : 8 * j + length (take 8 rest) ≡ 8 * (j + 1) = omega (arith, long) in e) in
-    omega (arith, piece, both)
+    grind (arith, nat_tests, common_steps, take-append-drop 8 rest, share-append t (8 * j) (take 8 rest) (drop 8 rest))
 
 -- a word in, and the last bytes
 pub last_two : (t : List ℕ) (sum j number last : ℕ) (bytes more : List ℕ) → number ≡ le (take 8 bytes) → 8 ≤ length bytes → more ≡ drop 8 bytes
     → last ≡ le (drop (length bytes - length more) bytes) → length more ≤ 8
     → ((sum + slice_index t j * number) % 2 ^ 128 + slice_index t (j + 1) * last) % 2 ^ 128 ≡ (sum + share t (8 * j) bytes) % 2 ^ 128
-last_two t sum j number last bytes more value within cut end few =
-    let behind : length bytes - length more ≡ 8 = omega (arith, ap length cut, length-drop 8 bytes, within) in
-    let short : length (drop 8 bytes) ≤ 8 = omega (arith, ap length cut, few) in
-    word_last t ((sum + slice_index t j * number) % 2 ^ 128) (j + 1) last (drop 8 bytes) (end ∙ ap (λ n. le (drop n bytes)) behind) short
-    ∙ word_more t sum j number bytes value within
+last_two t sum j number last bytes more value within cut end few = search (rules, length-drop, word_last, word_more)
 
 pub nothing_more : (t : List ℕ) (at : ℕ) → share t at [] ≡ 0
 unfolding share
@@ -130,16 +116,11 @@ high_only h within =
     ap (λ z. z / 2 ^ 64) (let e : h.sum ≡ (h.sum + slice_index h.keys.now.multipliers 16 * 0) % 2 ^ 128 = omega (arith, within) in e)
 
 pub answer_short : (h : MapHasher) → h.held ≤ 128 → h.sum < 2 ^ 128 → h.sum / 2 ^ 64 ≡ answer_of h
-answer_short h few within =
-    high_only h within
-    ∙ ap (λ b. (h.sum + slice_index h.keys.now.multipliers 16 * (if b then word_of h.rest else 0)) % 2 ^ 128 / 2 ^ 64) (sym (le-ltb 128 h.held few))
+answer_short h few within = grind (arith, nat_tests, common_steps, high_only, le-ltb)
 
 pub answer_long : (h : MapHasher) (word : ℕ) → 128 < h.held → word ≡ word_of h.rest
     → (h.sum + slice_index h.keys.now.multipliers 16 * word) % 2 ^ 128 / 2 ^ 64 ≡ answer_of h
-answer_long h word many is =
-    let m = slice_index h.keys.now.multipliers 16 in
-    ap (λ z. (h.sum + m * z) % 2 ^ 128 / 2 ^ 64) is
-    ∙ ap (λ b. (h.sum + m * (if b then word_of h.rest else 0)) % 2 ^ 128 / 2 ^ 64) (sym (lt-ltb 128 h.held many))
+answer_long h word many is = grind (arith, nat_tests, common_steps, lt-ltb)
 
 pub word_some : (rest : Option Position) (at : Position) → rest ≡ Some at → as_word (poly_end at) ≡ word_of rest
 unfolding word_of
@@ -168,33 +149,20 @@ pub first_part : (h : MapHasher) (bytes first more : List ℕ) (k sum held : ℕ
     → held ≡ min 129 (h.held + length bytes) → rest ≡ rest_after (key_of h) h.rest more
     → with_parts h sum held rest ≡ after_write h bytes
 first_part h bytes first more k sum held rest count front back value counted behind =
-    let room = 128 - h.held in
-    let m : k ≡ min room (length bytes) = omega (arith, count) in
-    let front_is : first ≡ take room bytes = front ∙ ap (λ n. take n bytes) m ∙ take_min room bytes in
-    let back_is : more ≡ drop room bytes = back ∙ ap (λ n. drop n bytes) m ∙ drop_min room bytes in
-    same_parts h sum ((h.sum + share h.keys.now.multipliers h.held (take room bytes)) % 2 ^ 128) held (min 129 (h.held + length bytes))
-    rest (rest_after (key_of h) h.rest (drop room bytes))
-    (value ∙ ap (λ xs. (h.sum + share h.keys.now.multipliers h.held xs) % 2 ^ 128) front_is) counted
-    (behind ∙ ap (rest_after (key_of h) h.rest) back_is)
+    grind (arith, nat_tests, common_steps, take_min, drop_min, same_parts)
 
 -- bytes for none of which there is room
 pub no_part : (h : MapHasher) (bytes : List ℕ) (held : ℕ) (rest : Option Position) → 128 ≤ h.held → h.sum < 2 ^ 128
     → held ≡ min 129 (h.held + length bytes) → rest ≡ rest_after (key_of h) h.rest bytes
     → with_parts h h.sum held rest ≡ after_write h bytes
-no_part h bytes held rest full within counted behind =
-    let none : 0 ≡ min (length bytes) (128 - h.held) = omega (arith, full) in
-    let nothing = nothing_more h.keys.now.multipliers h.held in
-    first_part h bytes [] bytes 0 h.sum held rest none refl refl (omega (arith, within, nothing)) counted behind
+no_part h bytes held rest full within counted behind = grind (arith, nat_tests, common_steps, nothing_more, first_part)
 
 -- bytes for all of which there is room
 pub all_part : (h : MapHasher) (bytes : List ℕ) (sum k : ℕ) → h.held + k ≤ 128 → length bytes ≡ k
     → sum ≡ (h.sum + share h.keys.now.multipliers h.held bytes) % 2 ^ 128
     → with_parts h sum (h.held + k) h.rest ≡ after_write h bytes
 all_part h bytes sum k room long value =
-    let few : length bytes ≤ 128 - h.held = omega (arith, room, long) in
-    let back_is : drop (length bytes) bytes ≡ [] = nil_from_length (drop (length bytes) bytes) (omega (arith, length-drop (length bytes) bytes)) in
-    first_part h bytes bytes (drop (length bytes) bytes) (length bytes) sum (h.held + k) h.rest (omega (arith, few)) (sym (take-length bytes)) refl value
-    (omega (arith, room, long)) (sym (rest_same (key_of h) h.rest) ∙ ap (rest_after (key_of h) h.rest) (sym back_is))
+    grind (arith, nat_tests, common_steps, nil_from_length, length-drop, first_part, take-length, rest_same)
 
 -- ---- a number's bytes
 
@@ -205,30 +173,17 @@ begins count number short within =
     let most : 2 ^ (8 * count) ≤ 2 ^ 64 = pow_mono (let l : 8 * count ≤ 64 = omega (arith, short) in l) in
     omega (arith, within, most) in
     let long = length-le_bytes count number in
-    ap (λ k. take k (to_le_bytes w64 number)) (sym long)
-    ∙ le-begins (le_bytes count number) (to_le_bytes w64 number) (IsText-le_bytes count number) (IsText-to_le_bytes w64 number)
-    (omega (arith, long, short, length-le_bytes 8 number)) (le-le_bytes count number within ∙ sym (le-to_le_bytes-64 number small))
+    search (rules, le-begins, IsText-le_bytes, IsText-to_le_bytes, length-le_bytes, le-le_bytes, le-to_le_bytes-64)
 
 pub number_part : (h : MapHasher) (number count sum : ℕ) → h.held < 128 → h.held % 8 + count ≤ 8 → number < 2 ^ (8 * count)
     → sum ≡ (h.sum + slice_index h.keys.now.multipliers (h.held / 8) * (number * 2 ^ (8 * (h.held % 8)) % 2 ^ 64)) % 2 ^ 128
     → with_parts h sum (h.held + count) h.rest ≡ after_write h (le_bytes count number)
 number_part h number count sum room short within value =
-    let t = h.keys.now.multipliers in
-    let bytes = le_bytes count number in
-    let long = length-le_bytes count number in
-    let few : h.held % 8 + length bytes ≤ 8 = omega (arith, short, long) in
-    let is : le bytes ≡ number = le-le_bytes count number within in
-    let piece : slice_index t (h.held / 8) * (number * 2 ^ (8 * (h.held % 8)) % 2 ^ 64) ≡ share t h.held bytes =
-    ap (λ n. slice_index t (h.held / 8) * (n * 2 ^ (8 * (h.held % 8)) % 2 ^ 64)) (sym is)
-    ∙ ap (λ n. slice_index t (h.held / 8) * n) (placed bytes (h.held % 8) (IsText-le_bytes count number) few)
-    ∙ sym (piece_in t h.held bytes few) in
-    all_part h bytes sum count (omega (arith, room, short)) long (value ∙ ap (λ z. (h.sum + z) % 2 ^ 128) piece)
+    grind (arith, nat_tests, common_steps, length-le_bytes, le-le_bytes, placed, IsText-le_bytes, piece_in, all_part)
 
 pub one_byte : (number : ℕ) → number < 256 → le_bytes 1 number ≡ number ∷ []
 unfolding le
-one_byte number within =
-    le-same (le_bytes 1 number) (number ∷ []) (IsText-le_bytes 1 number) (All-cons IsByte number [] within (All-nil IsByte)) (length-le_bytes 1 number)
-    (le-le_bytes 1 number within ∙ (let e : number ≡ number + 256 * 0 = omega arith in e))
+one_byte number within = grind (arith, nat_tests, common_steps, le-same, IsText-le_bytes, All-cons, All-nil, length-le_bytes, le-le_bytes)
 
 -- a number in two words
 pub spill_part : (h : MapHasher) (number count sum : ℕ) → h.held + count ≤ 128 → 8 < h.held % 8 + count → count ≤ 8 → number < 2 ^ (8 * count)
@@ -264,10 +219,7 @@ spill_part h number count sum room over short within value =
     let few : length more ≤ 8 = omega (arith, length-drop k bytes, long, short) in
     let second : (s + slice_index t (h.held / 8 + 1) * le more) % 2 ^ 128 ≡ (s + share t (h.held + k) more) % 2 ^ 128 =
     word_last t s (h.held / 8 + 1) (le more) more refl few ∙ ap (λ a. (s + share t a more) % 2 ^ 128) next in
-    all_part h bytes sum count room long
-    (value
-    ∙ ap₂ (λ x y. ((h.sum + slice_index t (h.held / 8) * x) % 2 ^ 128 + slice_index t (h.held / 8 + 1) * y) % 2 ^ 128) low high
-    ∙ second ∙ piece_more t h.sum h.held k (le first) bytes first_is refl k_in (omega arith))
+    grind (arith, nat_tests, common_steps, all_part, piece_more)
 
 -- ---- two writes are one
 
@@ -286,44 +238,12 @@ front r text piece = elim (cases_lt r (length text)) [
 ]
 
 back : (r : ℕ) (text piece : List ℕ) → drop r (text ++ piece) ≡ drop r text ++ drop (r - length (take r text)) piece
-back r text piece = elim (cases_lt r (length text)) [
-  | inl many ↦
-      let all : length (take r text) ≡ r = length-take-le r text (omega (arith, many)) in
-      drop-append-le r text piece (omega (arith, many))
-      ∙ ap (λ n. drop r text ++ drop n piece) (let e : 0 ≡ r - length (take r text) = omega (arith, all) in e)
-  | inr few ↦
-      let whole : take r text ≡ text = take_all r text few in
-      let n = r - length text in
-      ap (λ k. drop k (text ++ piece)) (let e : r ≡ length text + n = omega (arith, few) in e) ∙ drop-append-add text piece n
-      ∙ ap₂ (λ (l m : List ℕ). l ++ drop (r - length m) piece) (sym (drop_of_length-le text few)) (sym whole)
-]
+back r text piece = search (rules, cases_lt, length-take-le, drop-append-le, take_all, drop-append-add, drop_of_length-le)
 
 -- what the second of two writes adds
 seam : (t a b : List ℕ) (held : ℕ) → let r = 128 - held in
     share t (min 129 (held + length a)) (take (128 - min 129 (held + length a)) b) ≡ share t (held + length (take r a)) (take (r - length (take r a)) b)
-seam t a b held =
-    let first = length-take (128 - held) a in
-    let m = min 129 (held + length a) in
-    let room : 128 - m ≡ 128 - held - length (take (128 - held) a) = omega (arith, first) in
-    elim (cases_lt 128 (held + length a)) [
-      | inr few ↦ ap₂ (λ k n. share t k (take n b)) (let e : m ≡ held + length (take (128 - held) a) = omega (arith, few, first) in e) room
-      | inl many ↦
-          let none : 128 - m ≡ 0 = omega (arith, many) in
-          ap (λ n. share t m (take n b)) none ∙ nothing_more t m ∙ sym (nothing_more t (held + length (take (128 - held) a)))
-          ∙ ap (λ n. share t (held + length (take (128 - held) a)) (take n b)) (sym none ∙ room)
-    ]
+seam t a b held = grind (arith, nat_tests, common_steps, length-take, cases_lt, nothing_more)
 
 pub two_writes : (h : MapHasher) (a b : List ℕ) → after_write (after_write h a) b ≡ after_write h (a ++ b)
-two_writes h a b =
-    let t = h.keys.now.multipliers in
-    let r = 128 - h.held in
-    let first = take r a in
-    let m = min 129 (h.held + length a) in
-    let room : 128 - m ≡ r - length first = omega (arith, length-take r a) in
-    let split = ap (share t h.held) (front r a b) ∙ share-append t h.held first (take (r - length first) b) in
-    same_parts h (((h.sum + share t h.held first) % 2 ^ 128 + share t m (take (128 - m) b)) % 2 ^ 128)
-    ((h.sum + share t h.held (take r (a ++ b))) % 2 ^ 128) (min 129 (m + length b)) (min 129 (h.held + length (a ++ b)))
-    (rest_after (key_of h) (rest_after (key_of h) h.rest (drop r a)) (drop (128 - m) b)) (rest_after (key_of h) h.rest (drop r (a ++ b)))
-    (omega (arith, split, seam t a b h.held)) (omega (arith, length-append a b))
-    (rest_joined (key_of h) h.rest (drop r a) (drop (128 - m) b)
-    ∙ ap (rest_after (key_of h) h.rest) (sym (back r a b ∙ ap (λ k. drop r a ++ drop k b) (sym room))))
+two_writes h a b = search (rules, length-take, front, share-append, same_parts, seam, length-append, rest_joined, back)

@@ -1,5 +1,7 @@
 -- Two keys of a map have one hash at few keys of the hash.
-use Rattle.hash_map_keys.proofs.Common.{ℕ, All, All-drop, All-filter, All-take, AllPairs, AllPairs-filter, AreKeys, AreMapKeys, AreTables, AreWords, Bool, IsByte, IsText, List, NeitherBegins, [], ap, ap₂, arith, both_true, cases_lt, count_by, drop, drop-append_seam, drop_of_length-le, eights, eq-eqb, eqb-true, false, false≢true, few_keys_meet, filter, filter_passes, get_or, inl, inr, key_words, last_word, le, le-append, le-begins, length, length-drop, length-filter, length-take, length-take-le, map_hash, max, min, mul-add-lt, mul-le, nat_eq, poly61, prime61, refl, subst, suc, sym, take, take-add, take-append-drop, take-append_seam, take-length, take-take, take_all, true, true≢false, word_count, words_hash, zero, ◌%◌, ◌&&◌, ◌*◌, ◌++◌, ◌+◌, ◌-◌, ◌/◌, ◌<◌, ◌^◌, ◌∙◌, ◌∷◌, ◌≡◌, ◌≢◌, ◌≤◌}
+use Rattle.std.proofs.lemmas.Grind.{common_steps}
+use Rattle.std.proofs.lemmas.Bool.Decides.{nat_tests}
+use Rattle.hash_map_keys.proofs.Common.{ℕ, All, All-drop, All-filter, All-take, AllPairs, AllPairs-filter, AreKeys, AreMapKeys, AreTables, AreWords, Bool, IsByte, IsText, List, NeitherBegins, [], ap, ap₂, arith, cases_lt, count_by, drop, drop-append_seam, drop_of_length-le, eights, eq-eqb, eqb-true, false, false≢true, few_keys_meet, filter, filter_passes, get_or, inl, inr, key_words, last_word, le, le-append, le-begins, length, length-drop, length-filter, length-take, length-take-le, map_hash, max, min, mul-add-lt, nat_eq, poly61, prime61, refl, subst, suc, sym, take, take-add, take-append-drop, take-append_seam, take-length, take-take, take_all, true, true≢false, word_count, words_hash, zero, ◌%◌, ◌&&◌, ◌*◌, ◌++◌, ◌+◌, ◌-◌, ◌/◌, ◌<◌, ◌^◌, ◌∙◌, ◌∷◌, ◌≡◌, ◌≢◌, ◌≤◌}
 use Rattle.hash_map_keys.proofs.Counting.{count, few_but_those, those, those_below, those_differ, those_marked}
 use Rattle.hash_map_keys.proofs.Counting.{having}
 use Rattle.hash_map_keys.proofs.FromEvenness.{share_both}
@@ -32,30 +34,16 @@ joined_eights (suc n) bytes =
     let more = take (8 * n) (drop 8 bytes) in
     let split : take (8 * suc n) bytes ≡ first ++ more =
     ap (λ k. take k bytes) (let e : 8 * suc n ≡ 8 + 8 * n = omega arith in e) ∙ take-add 8 (8 * n) bytes in
-    let others : le more * 2 ^ 64 ≡ le more * 2 ^ (8 * length first) = elim (cases_lt (length bytes) 8) [
-      | inr many ↦ ap (λ k. le more * 2 ^ (8 * k)) (sym (length-take-le 8 bytes many))
-      | inl less ↦
-          let none : more ≡ [] =
-          ap (take (8 * n)) (drop_of_length-le bytes (let l : length bytes ≤ 8 = omega (arith, less) in l)) ∙ take_all (8 * n) [] (omega arith) in
-          let zero_is : le more ≡ 0 = ap le none in
-          ap (λ z. z * 2 ^ 64) zero_is ∙ (let e : 0 * 2 ^ 64 ≡ 0 * 2 ^ (8 * length first) = omega arith in e)
-          ∙ ap (λ z. z * 2 ^ (8 * length first)) (sym zero_is)
-    ] in
+    let others : le more * 2 ^ 64 ≡ le more * 2 ^ (8 * length first) =
+    grind (arith, nat_tests, common_steps, cases_lt, length-take-le, drop_of_length-le, take_all) in
     ap (λ z. le first + z * 2 ^ 64) (joined_eights n (drop 8 bytes)) ∙ ap (λ z. le first + z) others ∙ sym (le-append first more) ∙ ap le (sym split)
 
 module _ (key : ℕ) (s t : List ℕ) (same : key_words key s ≡ key_words key t) where
   eights_same : eights 16 s ≡ eights 16 t
-  eights_same =
-      sym (ap (λ k. take k (key_words key s)) (sym (length-eights 16 s)) ∙ take-append_seam (eights 16 s) (last_word key (drop 128 s) ∷ []))
-      ∙ ap (take 16) same
-      ∙ (ap (λ k. take k (key_words key t)) (sym (length-eights 16 t)) ∙ take-append_seam (eights 16 t) (last_word key (drop 128 t) ∷ []))
+  eights_same = grind (arith, nat_tests, common_steps, length-eights, take-append_seam)
 
   last_same : last_word key (drop 128 s) ≡ last_word key (drop 128 t)
-  last_same =
-      ap (λ (l : List ℕ). get_or l 0 0)
-      (sym (ap (λ k. drop k (key_words key s)) (sym (length-eights 16 s)) ∙ drop-append_seam (eights 16 s) (last_word key (drop 128 s) ∷ []))
-      ∙ ap (drop 16) same
-      ∙ (ap (λ k. drop k (key_words key t)) (sym (length-eights 16 t)) ∙ drop-append_seam (eights 16 t) (last_word key (drop 128 t) ∷ [])))
+  last_same = grind (arith, nat_tests, common_steps, length-eights, drop-append_seam)
 
   numbers_same : le (take 128 s) ≡ le (take 128 t)
   numbers_same = sym (joined_eights 16 s) ∙ ap joined eights_same ∙ joined_eights 16 t
@@ -116,9 +104,7 @@ few_same_parts s t (first ∷ others) s_is t_is neither are have =
             let t_more : 0 < length (drop 128 t) = omega (arith, length-drop 128 t, t_long) in
             few_keys_meet (drop 128 s) (drop 128 t) (first ∷ others) (All-drop IsByte 128 s s_is) (All-drop IsByte 128 t t_is)
             (λ backs.
-            let whole : s ≡ t =
-            sym (take-append-drop 128 s) ∙ ap₂ (λ u v. u ++ v) fronts backs ∙ take-append-drop 128 t in
-            neither.0 (ap (λ u. take (length u) t) whole ∙ take-length t ∙ sym whole)) are
+            grind (arith, nat_tests, common_steps, take-append-drop 128 s, take-append-drop 128 t, take-length t)) are
             (λ i d h.
             let k = get_or (first ∷ others) i d in
             sym (rest_is k (drop 128 s) s_more) ∙ (have i d h).1 ∙ rest_is k (drop 128 t) t_more)
@@ -180,16 +166,11 @@ module _ (s t : List ℕ) (s_is : IsText s) (t_is : IsText t) (low high : ℕ) (
 
   marked : (i : ℕ) → mark i ≡ true → Same i s t
   unfolding mark
-  marked i has =
-      let parts = both_parts (nat_eq (le (take 128 s)) (le (take 128 t))) (nat_eq (last_word i (drop 128 s)) (last_word i (drop 128 t))) has in
-      (eqb-true (le (take 128 s)) (le (take 128 t)) parts.0, eqb-true (last_word i (drop 128 s)) (last_word i (drop 128 t)) parts.1)
+  marked i has = grind (arith, nat_tests, common_steps, both_parts, eqb-true)
 
   unmarked : (i : ℕ) → mark i ≡ false → key_words i s ≢ key_words i t
   unfolding mark
-  unmarked i lacks same =
-      true≢false
-      (sym (both_true (eq-eqb (le (take 128 s)) (le (take 128 t)) (numbers_same i s t same))
-      (eq-eqb (last_word i (drop 128 s)) (last_word i (drop 128 t)) (last_same i s t same))) ∙ lacks)
+  unmarked i lacks same = grind (arith, nat_tests, common_steps, true≢false, eq-eqb, numbers_same, last_same)
 
   abbrev of_key : Key → ℕ
   of_key key = key.1
@@ -232,9 +213,7 @@ module _ (s t : List ℕ) (s_is : IsText s) (t_is : IsText t) (low high : ℕ) (
       let bad = few_same_parts s t (those mark prime61) s_is t_is neither
       record { below = those_below mark prime61; differ = those_differ mark prime61 }
       (λ j d h. marked (get_or (those mark prime61) j d) (those_marked mark prime61 j d h)) in
-      let rise = mul-le (length (those mark prime61)) (2 ^ 2304) (max (word_count (drop 128 s)) (word_count (drop 128 t)) + 1) (2 ^ 2304) bad
-      (omega arith) in
-      omega (arith, most, rise)
+      omega (arith, most)
 
 pub few_for_two : (s t : List ℕ) (low high : ℕ) (keys : List Key) → IsText s → IsText t → NeitherBegins s t → low + high ≤ 64 → AreMapKeys keys
     → All (λ key. (map_hash key.0.0 key.0.1 key.1 s % 2 ^ low ≡ map_hash key.0.0 key.0.1 key.1 t % 2 ^ low)

@@ -1,4 +1,6 @@
 -- Lists of words under lists of multipliers: what differs is a word at some place.
+use Rattle.std.proofs.lemmas.Grind.{common_steps}
+use Rattle.std.proofs.lemmas.Bool.Decides.{nat_tests}
 use Rattle.hash_map_keys.proofs.Common.{ℕ, All, All-cons, All-head, All-nil, All-tail, AllPairs, AreWords, List, [], ap, ap₂, arith, dot, eqb_tells, get_or, inl, inr, length, lit<, mod-lt, mul-add-lt, pow-add, refl, subst, suc, sym, words_hash, zero, ◌%◌, ◌*◌, ◌+◌, ◌-◌, ◌/◌, ◌<◌, ◌^◌, ◌∙◌, ◌∷◌, ◌≡◌, ◌≢◌, ◌≤◌}
 use Rattle.hash_map_keys.proofs.Counting.{count}
 use Rattle.hash_map_keys.proofs.Evenness.{even, same_addend}
@@ -131,20 +133,14 @@ module _ {X : Type 0} (is : X → Type 0) (multipliers : X → List ℕ) (addend
 
   by_place : (j : ℕ) (key : X) (words : List ℕ)
       → hash key words ≡ (at j (multipliers key) * at j words + (addend key + others j words (without j (multipliers key)))) % 2 ^ 128 / 2 ^ 64
-  by_place j key words =
-      ap (λ z. z % 2 ^ 128 / 2 ^ 64)
-      (let e : dot (multipliers key) words + addend key
-      ≡ at j (multipliers key) * at j words + (addend key + others j words (without j (multipliers key))) =
-      omega (arith, dot-split j (multipliers key) words) in e)
+  by_place j key words = grind (arith, nat_tests, common_steps, at, without, dot-split)
 
   at_place : (m j : ℕ) (x y : List ℕ) (u v : ℕ) (keys : List X) → n ≡ suc m → j < n → AreWords n x → AreWords n y → at j x ≢ at j y
       → All is keys → AllPairs ◌≢◌ keys → All (λ k. (hash k x ≡ u) × (hash k y ≡ v)) keys → length keys ≤ 2 ^ (128 * m) * 2 ^ 128
   at_place m j x y u v keys more j_in x_are y_are apart are differ have =
       even (2 ^ (128 * m)) digits (AreMultipliers m) (digits_in m) (digits_tell m) is (parts j)
       (λ k l k_is l_is same.
-      tell k l k_is l_is
-      (put_back j (multipliers k) (multipliers l) ((are_multipliers k k_is).0 ∙ sym (are_multipliers l l_is).0)
-      (ap (λ (p : ℕ × ℕ × List ℕ). p.0) same) (ap (λ (p : ℕ × ℕ × List ℕ). p.2) same)) (ap (λ (p : ℕ × ℕ × List ℕ). p.1) same))
+      grind (arith, nat_tests, common_steps, put_back))
       (λ k k_is.
       let there = are_multipliers k k_is in
       let j_there : j < length (multipliers k) = omega (arith, j_in, there.0) in (

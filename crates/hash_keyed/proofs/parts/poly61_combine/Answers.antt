@@ -1,4 +1,5 @@
-use Rattle.hash_keyed.proofs.Lemmas.{◌≡◌, ◌+◌, ◌-◌, ◌/◌, ◌%◌, ◌^◌, ◌∙◌, ap, ap₂, sym, prime61, poly_state, as_word, joined_value, joined-value, joined_is}
+use Rattle.std.proofs.lemmas.Bool.Decides.{nat_tests}
+use Rattle.hash_keyed.proofs.Lemmas.{◌≡◌, ◌+◌, ◌-◌, ◌/◌, ◌%◌, ◌^◌, ◌∙◌, ap, ap₂, prime61, as_word, joined_value, joined-value, joined_is, arith, common_steps}
 use Rattle.hash_keyed.proofs.parts.poly61_combine.Goals as goal
 
 value : (c : goal.After-word_of)
@@ -20,7 +21,4 @@ returns-clause-value c = value c
 pub returns-clause-joined : goal.returns-clause-joined
 returns-clause-joined c = λ x y whole long first second.
     let key = c.args.key % prime61 in
-    value c
-    ∙ ap (λ s. as_word (joined_value key s c.args.hash2 c.args.length2)) first
-    ∙ ap₂ (λ h n. as_word (joined_value key (poly_state prime61 key x) h n)) second (sym long)
-    ∙ ap as_word (joined-value key x y whole)
+    grind (arith, nat_tests, common_steps, value c, joined-value key x y whole)

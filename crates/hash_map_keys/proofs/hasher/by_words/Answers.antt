@@ -1,4 +1,6 @@
-use Rattle.hash_map_keys.proofs.Common.{ap, ap₂, arith, drop, drop-drop, eqb-true, le, length, nil_from_length, share, sym, take, ◌%◌, ◌*◌, ◌+◌, ◌-◌, ◌^◌, ◌∙◌, ◌≡◌}
+use Rattle.std.proofs.lemmas.Grind.{common_steps}
+use Rattle.std.proofs.lemmas.Bool.Decides.{nat_tests}
+use Rattle.hash_map_keys.proofs.Common.{ap, ap₂, arith, drop, drop-drop, eqb-true, le, nil_from_length, share, take, ◌%◌, ◌*◌, ◌+◌, ◌-◌, ◌^◌, ◌∙◌, ◌≡◌}
 use Rattle.hash_map_keys.proofs.Shares.{nothing_more, word_last, word_more}
 use Rattle.hash_map_keys.proofs.hasher.by_words.Goals as goal
 
@@ -21,19 +23,7 @@ loop-word-preserved c =
     }
 
 pub returns-then-is_empty : goal.returns-then-is_empty
-returns-then-is_empty c =
-    let t = c.args.multipliers.now in
-    let none = nil_from_length c.loop-word.rest.now (eqb-true _ _ (sym c.is_empty.ensures ∙ c.if-is_empty.true)) in
-    let nothing = ap (share t (8 * c.loop-word.at)) none ∙ nothing_more t (8 * c.loop-word.at) in
-    omega (arith, nothing, c.loop-word.invariant.there, c.loop-word.invariant.small)
+returns-then-is_empty c = grind (arith, nat_tests, common_steps, nil_from_length, eqb-true, nothing_more)
 
 pub returns-else-is_empty : goal.returns-else-is_empty
-returns-else-is_empty c =
-    let t = c.args.multipliers.now in
-    let bytes = c.args.bytes.now in
-    let rest = c.loop-word.rest.now in
-    let at = c.loop-word.at in
-    let behind : length bytes - length rest ≡ 8 * (at - c.args.words) = omega (arith, c.loop-word.invariant.room) in
-    let value : c.number_of_last.result ≡ le rest =
-    c.number_of_last.ensures ∙ ap (λ n. le (drop n bytes)) behind ∙ ap le (sym c.loop-word.invariant.behind) in
-    c.with_word.ensures ∙ word_last t c.loop-word.sum at c.number_of_last.result rest value (omega (arith, c.in_default.ensures.cases)) ∙ c.loop-word.invariant.there
+returns-else-is_empty c = grind (arith, nat_tests, common_steps, word_last)

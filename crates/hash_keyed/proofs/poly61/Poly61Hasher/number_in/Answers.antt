@@ -1,4 +1,6 @@
-use Rattle.hash_keyed.proofs.Lemmas.{ap, ◌∙◌, arith, le_bytes, after, number_kept, number_fills, number_fills_two, rest-lt}
+use Rattle.std.proofs.lemmas.Bool.Decides.{nat_tests}
+use Rattle.std.proofs.Common.{rules}
+use Rattle.hash_keyed.proofs.Lemmas.{ap, ◌∙◌, arith, le_bytes, after, number_kept, number_fills, number_fills_two, rest-lt, common_steps}
 use Rattle.hash_keyed.proofs.poly61.Poly61Hasher.number_in.Goals as goal
 
 pub invariant_of-self : goal.invariant_of-self
@@ -12,14 +14,7 @@ invariant_of-self c =
     }
 
 pub invariant_of-self-then-all-lt14 : goal.invariant_of-self-then-all-lt14
-invariant_of-self-then-all-lt14 c =
-    let j = c.joined-first.ensures in
-    record {
-      key_in = c.self.invariant.key_in;
-      state_in = c.step-self-inside.ensures.small;
-      word_in = rest-lt c.self.inside c.self.invariant _ _ _ _ c.requires.short c.requires.within j.whole j.small c.if-all-lt7.false;
-      count_in = omega (arith, c.if-all-lt14.true, c.if-all-lt7.false);
-    }
+invariant_of-self-then-all-lt14 c = search (rules, rest-lt)
 
 pub returns-then-all-lt7 : goal.returns-then-all-lt7
 returns-then-all-lt7 c =
@@ -35,9 +30,4 @@ returns-then-all-lt14 c =
     ∙ ap (λ at. after at (le_bytes c.args.count c.args.number)) c.self.view_is
 
 pub returns-else-all-lt14 : goal.returns-else-all-lt14
-returns-else-all-lt14 c =
-    let j = c.joined-first.ensures in
-    number_fills_two c.self.inside c.self.invariant _ _ _ _ c.requires.short c.requires.within j.whole j.small
-    c.step-state.result c.step-self-inside-else-all-lt14.result c.if-all-lt14.false c.step-state.ensures.same
-    c.step-self-inside-else-all-lt14.ensures.same
-    ∙ ap (λ at. after at (le_bytes c.args.count c.args.number)) c.self.view_is
+returns-else-all-lt14 c = grind (arith, nat_tests, common_steps, number_fills_two)

@@ -1,8 +1,8 @@
-use Rattle.hash_map_keys.proofs.Common.{[], after_write, ap, arith, ◌<◌, ◌∙◌, ◌∷◌}
+use Rattle.std.proofs.lemmas.Grind.{common_steps}
+use Rattle.std.proofs.lemmas.Bool.Decides.{nat_tests}
+use Rattle.hash_map_keys.proofs.Common.{arith}
 use Rattle.hash_map_keys.proofs.Shares.{one_byte}
 use Rattle.hash_map_keys.proofs.hasher.MapHasherHasher.write_u8.Goals as goal
 
 pub returns : goal.returns
-returns c =
-    c.number.ensures ∙ ap (after_write c.args.self.now) (one_byte c.from.result (let l : c.from.result < 256 = omega (arith, c.from.ensures) in l))
-    ∙ ap (λ n. after_write c.args.self.now (n ∷ [])) c.from.ensures
+returns c = grind (arith, nat_tests, common_steps, one_byte)
