@@ -161,6 +161,21 @@ fn behind_all(text_key: u64, rest: &mut Option<Poly61Hasher>, bytes: &[u8])
     }
 }
 
+/// A sum with a number that begins in one word and ends in the next.
+#[inline(never)]
+fn across(multipliers: &[u128; 17], start: u128, held: usize, number: u64) -> u128
+    requires begun { 1 ≤ held % 8 }
+    requires room { held < 128 }
+    ensures { result
+        ≡ ((start + slice_index multipliers.now (held / 8) * (number * 2 ^ (8 * (held % 8)) % 2 ^ 64)) % 2 ^ 128
+        + slice_index multipliers.now (held / 8 + 1) * (number / 2 ^ (64 - 8 * (held % 8)))) % 2 ^ 128 }
+{
+    let at = held / 8;
+    let bits = 8 * (held % 8) as u32;
+    let sum = with_word(start, multipliers[at], number << bits);
+    with_word(sum, multipliers[at + 1], number >> (64 - bits))
+}
+
 // The answer where there were more than 128 bytes: the word is that of those after them.
 #[inline(never)]
 fn ended(keys: &MapKeys, sum: u128, word: u64) -> u64
@@ -189,26 +204,6 @@ impl<'a> MapHasher<'a> {
         }
     }
 
-    // A number of so many bytes in two words, or after the first 128.
-    #[inline(never)]
-    fn beyond(&mut self, number: u64, count: usize)
-        requires some { 1 ≤ count }
-        requires short { count ≤ 8 }
-        requires within { number < 2 ^ (8 * count) }
-        ensures { self.new ≡ after_write self.old (le_bytes count number) }
-    {
-        let place = self.held % 8;
-        if self.held <= 128 - count && place + count > 8 {
-            let at = self.held / 8;
-            let bits = 8 * place as u32;
-            let sum = with_word(self.sum, self.keys.multipliers[at], number << bits);
-            self.sum = with_word(sum, self.keys.multipliers[at + 1], number >> (64 - bits));
-            self.held += count;
-        } else {
-            self.past(&number.to_le_bytes()[..count]);
-        }
-    }
-
     // The hasher itself, for a call that stands apart: that takes the address of this one, so the other can stay in registers.
     #[inline(always)]
     fn moved(&mut self) -> MapHasher<'a>
@@ -230,14 +225,15 @@ impl<'a> MapHasher<'a> {
         requires within { number < 2 ^ (8 * count) }
         ensures { self.new ≡ after_write self.old (le_bytes count number) }
     {
-        if self.held < 128 && self.held % 8 + count <= 8 {
+        if self.held > 128 - count {
+            self.write(&number.to_le_bytes()[..count]);
+        } else if self.held % 8 + count <= 8 {
             let place = number << (8 * (self.held % 8) as u32);
             self.sum = with_word(self.sum, self.keys.multipliers[self.held / 8], place);
             self.held += count;
         } else {
-            let mut moved = self.moved();
-            moved.beyond(number, count);
-            *self = moved;
+            self.sum = across(&self.keys.multipliers, self.sum, self.held, number);
+            self.held += count;
         }
     }
 }
