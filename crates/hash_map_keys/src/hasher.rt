@@ -5,6 +5,7 @@ ghost use Rattle.hash_keyed.specs.Poly61State.{after};
 ghost use Rattle.std.specs.Hash.{le_bytes};
 ghost use Rattle.hash_keyed.specs.Poly61.{prime61};
 ghost use Rattle.hash_map_keys.specs.MapKeys.{map_hash};
+ghost use Rattle.std.specs.declared.option.Option.TheVariants.{None};
 ghost use Rattle.hash_map_keys.specs.KeyState.{after_write, answer_of, rest_after, share};
 
 use crate::keys::MapKeys;
@@ -207,7 +208,8 @@ impl<'a> MapHasher<'a> {
     // The hasher itself, for a call that stands apart: that takes the address of this one, so the other can stay in registers.
     #[inline(always)]
     fn moved(&mut self) -> MapHasher<'a>
-        ensures { result ≡ self.old }
+        ensures moved { result ≡ self.old }
+        ensures left { self.new ≡ record self.old { rest = None } }
     {
         MapHasher {
             keys: self.keys,

@@ -288,7 +288,8 @@ impl<'a> MapHasher<'a> {
     /// Proved:
     ///
     /// ```text
-    /// result ≡ self.old
+    /// moved: result ≡ self.old
+    /// left: self.new ≡ record self.old { rest = None }
     /// ```
     #[inline(always)]
     fn moved(&mut self) -> MapHasher<'a> {
