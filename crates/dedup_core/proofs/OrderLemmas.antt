@@ -1,5 +1,5 @@
 -- Texts that are written in order, with how often each came.
-use Rattle.dedup_core.proofs.Common.{◌≡◌, ℕ, ◌+◌, ◌<◌, List, [], ◌∷◌, ◌++◌, length, get_or, drop, map, ap, refl, append_assoc, drop_more, flat_map, Tallies, shown, told}
+use Rattle.dedup_core.proofs.Common.{◌≡◌, ℕ, ◌+◌, ◌<◌, List, [], ◌∷◌, ◌++◌, length, get_or, drop, map, ap, refl, append_assoc, drop_more, flat_map, Tallies, shown, told, rules}
 use Rattle.dedup_core.specs.declared.tally.Which.{Which}
 
 module _ (eol : ℕ) (which : Which) where
@@ -21,6 +21,4 @@ module _ (eol : ℕ) (which : Which) where
   pub listed_more : (seen : List (List ℕ)) (times : List ℕ) (i : ℕ) (part out text all : List ℕ) → i < length seen → i < length times
       → text ≡ get_or seen i [] → out ≡ shown eol which (get_or times i 0) text → part ++ listed (drop i seen) (drop i times) ≡ all
       → (part ++ out) ++ listed (drop (i + 1) seen) (drop (i + 1) times) ≡ all
-  listed_more seen times i part out text all below below' text_is out_is is =
-      let split = rw (drop_more seen i [] below, drop_more times i 0 below') at is in
-      rw (append_assoc, out_is, text_is) split
+  listed_more seen times i part out text all below below' text_is out_is is = search (rules, drop_more, append_assoc)

@@ -1,5 +1,6 @@
 -- What was read of an input and taken of it, and what is written of that.
-use Rattle.dedup_core.proofs.Common.{◌≡◌, ℕ, ◌+◌, true, false, List, [], ◌∷◌, ◌++◌, length, take, drop, ap, sym, ◌∙◌, refl, subst, Option, None, Some, append_assoc, arith, ends_with_byte, Consumes, Keeps, IsAtEnd, Appends-kept, Consumes-trans, Consumes-whole, false≢true, part_whole, IsBare, IsLineEnd, lines_by, bare_end, bare_line, first_ends, first_line, Filled, Splits, Takes, append-nil, At, BeginWith, BreaksInput, Broke, Grows, Leads, ReadsInput, whole_lines}
+use Rattle.std.proofs.lemmas.Bool.Decides.{nat_tests}
+use Rattle.dedup_core.proofs.Common.{◌≡◌, ℕ, ◌+◌, true, false, List, [], ◌∷◌, ◌++◌, length, take, drop, ap, sym, ◌∙◌, refl, subst, Option, None, Some, append_assoc, arith, Consumes, Keeps, IsAtEnd, Appends-kept, Consumes-trans, Consumes-whole, part_whole, IsBare, IsLineEnd, lines_by, bare_end, bare_line, first_ends, first_line, Filled, Splits, Takes, append-nil, At, BeginWith, BreaksInput, Broke, Grows, Leads, ReadsInput, whole_lines, common_steps}
 use Rattle.std.proofs.lemmas.List.Elements.{filter-append}
 use Rattle.streams.proofs.RecordLemmas.{first_all, first_behind, first_both, first_none}
 use Rattle.dedup_core.specs.declared.unread.NextLine.{NextLine}
@@ -13,9 +14,7 @@ pub leads_nowhere : (at : Standing) → Leads at at []
 leads_nowhere at = record { on = λ start ls here. subst (at start) (sym (append-nil ls)) here }
 
 pub leads_both : {a b c : Standing} {first second : List (List ℕ)} → Leads a b first → Leads b c second → Leads a c (first ++ second)
-leads_both {c = c} {first = first} {second = second} one two = record {
-  on = λ start ls here. subst (c start) (append_assoc ls first second) (two.on start (ls ++ first) (one.on start ls here));
-}
+leads_both {c = c} {first = first} {second = second} one two = grind (arith, nat_tests, common_steps, append_assoc)
 
 -- what is written aside
 pub taken_on : {output : List (List ℕ) → List ℕ} {taken taken' : List (List ℕ) → Type 0} {w w' : Option (List ℕ)} {more : List (List ℕ)}
@@ -30,16 +29,11 @@ module _ {output : List (List ℕ) → List ℕ} {taken : List (List ℕ) → Ty
     (keeps : Keeps w w') (leads : Leads a (At output taken w) more) where
   -- a flush changes nothing that was written
   pub leads_kept : Leads a (At output taken w') more
-  leads_kept = record {
-    on = λ start ls here. let at = leads.on start ls here in
-        record { stands = at.stands; writes = Appends-kept _ _ _ _ at.writes keeps };
-  }
+  leads_kept = grind (arith, nat_tests, common_steps, Appends-kept)
 
   -- a fault behind lines of which all is written
   pub breaks_behind : Leads a (Broke output w') more
-  breaks_behind = record {
-    on = λ start ls here. part_whole _ _ _ (Appends-kept _ _ _ _ (leads.on start ls here).writes keeps);
-  }
+  breaks_behind = grind (arith, nat_tests, common_steps, part_whole, Appends-kept)
 
 -- a fault before anything is written of the next lines
 pub breaks_before : {output : List (List ℕ) → List ℕ} {taken : List (List ℕ) → Type 0} {w w' : Option (List ℕ)} → Grows output
@@ -57,18 +51,11 @@ module _ {eol : ℕ} where
   -- the first line, and what comes behind it
   pub splits_line : (bytes line behind : List ℕ) (n : ℕ) → line ≡ take (n + 1) bytes → behind ≡ drop (n + 1) bytes
       → IsLineEnd eol bytes (Some n) → Splits eol bytes (line ∷ []) behind
-  splits_line bytes line behind n front back end =
-      record {
-        first = record { stay = λ later. rw (front, back) (first_line eol bytes later n end) };
-        ends = rw (front, first_ends eol bytes n end);
-      }
+  splits_line bytes line behind n front back end = grind (arith, nat_tests, common_steps, first_line, first_ends)
 
   pub splits_both : {bytes mid rest : List ℕ} {ls more : List (List ℕ)} → Splits eol bytes ls mid → Splits eol mid more rest
       → Splits eol bytes (ls ++ more) rest
-  splits_both {ls = ls} {more = more} one two = record {
-    first = first_both one.first two.first;
-    ends = rw (filter-append (ends_with_byte eol) ls more, one.ends, two.ends);
-  }
+  splits_both {ls = ls} {more = more} one two = grind (arith, nat_tests, common_steps, first_both, filter-append)
 
   -- more bytes behind them
   pub splits_behind : {bytes rest : List ℕ} {ls : List (List ℕ)} (more : List ℕ) → Splits eol bytes ls rest
@@ -78,12 +65,7 @@ module _ {eol : ℕ} where
   -- where the rest has no end, the lines that have one are these
   whole_are : {bytes rest : List ℕ} {ls : List (List ℕ)} → Splits eol bytes ls rest → IsBare eol rest → whole_lines eol bytes ≡ ls
   whole_are {rest = rest} {ls = ls} it bare =
-      rw (first_all it.first, filter-append (ends_with_byte eol) ls (lines_by eol rest), it.ends, none rest bare, append-nil ls)
-    where
-      none : (rest : List ℕ) → IsBare eol rest → whole_lines eol rest ≡ []
-      none [] bare = refl
-      none (byte ∷ rest) bare =
-          rw (bare_line eol (byte ∷ rest) bare (omega arith), bare_end eol (byte ∷ rest) bare)
+      grind (arith, nat_tests, common_steps, first_all, filter-append, append-nil, bare_line, bare_end)
 
   pub bare_nothing : (bytes : List ℕ) → bytes ≡ [] → IsBare eol bytes
   bare_nothing bytes none = λ k below. absurd (omega (arith, below, ap length none))
@@ -110,44 +92,24 @@ begins eol (Some all) (Some later) bytes read = (later, λ ls more are. (more, a
 module _ {eol : ℕ} {left left' : Option (List ℕ)} {unread : List ℕ} {ls : List (List ℕ)} (reads : Reads eol left left' unread ls) where
   -- lines that are behind those that are taken
   pub next_lines : {more : List (List ℕ)} {rest : List ℕ} → Splits eol unread more rest → BeginWith eol left (ls ++ more)
-  next_lines {rest = rest} it =
-      let (later, first) = begins eol left left' reads.bytes reads.read in
-      first _ _ ((splits_both reads.splits it).first.stay later)
+  next_lines {rest = rest} it = grind (arith, nat_tests, common_steps, begins, splits_both)
 
   pub reads_on : {unread' : List ℕ} {left'' : Option (List ℕ)} {came : NextLine} → Filled eol unread unread' left' left'' came
       → Reads eol left left'' unread' ls
-  reads_on filled = record {
-    bytes = reads.bytes ++ filled.text;
-    read = Consumes-trans _ _ _ _ _ reads.read filled.read;
-    splits = subst (Splits eol (reads.bytes ++ filled.text) ls) (sym filled.is) (splits_behind filled.text reads.splits);
-  }
+  reads_on filled = grind (arith, nat_tests, common_steps, Consumes-trans, splits_behind)
 
   -- some lines more are taken
   pub takes_on : {len : ℕ} {more : List (List ℕ)} (rest : List ℕ) → rest ≡ drop len unread → Takes eol unread len more
       → Reads eol left left' rest (ls ++ more)
-  takes_on {more = more} rest is takes = record {
-    bytes = reads.bytes;
-    read = reads.read;
-    splits = subst (Splits eol reads.bytes (ls ++ more)) (sym is) (splits_both reads.splits takes.splits);
-  }
+  takes_on {more = more} rest is takes = grind (arith, nat_tests, common_steps, splits_both)
 
   -- the input has ended
   pub reads_to_end : IsAtEnd left' → ReadsInput eol true left left' (ls ++ lines_by eol unread)
-  reads_to_end ended = record {
-    text = reads.bytes;
-    read = reads.read;
-    all = λ yes. Consumes-whole left left' reads.bytes (λ bytes. bytes ≡ reads.bytes) reads.read ended refl;
-    lines = sym (first_all reads.splits.first);
-  }
+  reads_to_end ended = grind (arith, nat_tests, common_steps, Consumes-whole, first_all)
 
   -- the input has failed
   pub reads_to_fault : IsBare eol unread → ReadsInput eol false left left' ls
-  reads_to_fault bare = record {
-    text = reads.bytes;
-    read = reads.read;
-    all = λ yes. absurd (false≢true yes);
-    lines = sym (whole_are reads.splits bare);
-  }
+  reads_to_fault bare = grind (arith, nat_tests, common_steps, whole_are reads.splits bare)
 
   -- a beginning of what is due of these lines and some that come next was written
   pub breaks_within : {before broke : Standing} {more : List (List ℕ)} {rest : List ℕ} → Splits eol unread more rest

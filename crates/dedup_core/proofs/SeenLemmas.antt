@@ -1,5 +1,6 @@
 -- The set of the texts that were seen.
-use Rattle.dedup_core.proofs.Common.{◌≡◌, ℕ, Result, Ok, Err, OnOk, Bool, true, false, not, List, [], ◌∷◌, ◌++◌, ap, ◌∙◌, map, if◌then◌else◌, Option, fold, arith, is_ok, strip_last, false≢true, map-append, fold-append, flat_map-append, Appends-trans, Appends, AppendsPart, as_line_by, part_behind, has, with_text, append-nil, At, Broke, Leads}
+use Rattle.std.proofs.lemmas.Bool.Decides.{nat_tests}
+use Rattle.dedup_core.proofs.Common.{◌≡◌, ℕ, Result, Ok, Err, OnOk, Bool, true, false, not, List, [], ◌∷◌, ◌++◌, if◌then◌else◌, Option, arith, is_ok, strip_last, false≢true, map-append, fold-append, Appends-trans, Appends, AppendsPart, as_line_by, part_behind, has, with_text, append-nil, At, Broke, Leads, rules, common_steps}
 use Rattle.text_set.specs.Firsts.{firsts_by, once_by}
 
 -- what is told to be new is not there, and what is told to be old is
@@ -12,30 +13,19 @@ is_there there new is told = grind arith
 -- the texts with that of a line more
 pub firsts_more : (eol : ℕ) (ls : List (List ℕ)) (line : List ℕ)
     → firsts_by eol (ls ++ line ∷ []) ≡ with_text (firsts_by eol ls) (strip_last eol line)
-firsts_more eol ls line =
-    ap (fold with_text []) (map-append (strip_last eol) ls (line ∷ []))
-    ∙ fold-append with_text [] (map (strip_last eol) ls) (strip_last eol line ∷ [])
+firsts_more eol ls line = grind (arith, nat_tests, common_steps, map-append, fold-append)
 
 module _ (eol : ℕ) (seen : List (List ℕ)) (line : List ℕ) where
   -- what is written of a line behind lines with these texts: nothing where its text is there, and else all of it, and its end
   adds : (ls : List (List ℕ)) → seen ≡ firsts_by eol ls → (there : Bool) → has seen (strip_last eol line) ≡ there
       → once_by eol (ls ++ line ∷ []) ≡ once_by eol ls ++ (if there then [] else as_line_by eol line)
-  adds ls now there is =
-      let more = flat_map-append (λ text. text ++ eol ∷ []) (firsts_by eol ls) (strip_last eol line ∷ []) in
-      let none = append-nil (once_by eol ls) in
-      let alone = append-nil (as_line_by eol line) in
-      rw firsts_more (grind (arith, now, is, more, none, alone))
+  adds ls now there is = grind (arith, nat_tests, common_steps, append-nil (once_by eol ls), append-nil (as_line_by eol line))
 
   -- a line is taken by a set that has its text then, and what is due of it is written
   pub takes_line : (seen' : List (List ℕ)) → seen' ≡ with_text seen (strip_last eol line) → (there : Bool)
       → has seen (strip_last eol line) ≡ there → (w w' : Option (List ℕ)) → Appends w w' (if there then [] else as_line_by eol line)
       → Leads (At (once_by eol) (λ ls. seen ≡ firsts_by eol ls) w) (At (once_by eol) (λ ls. seen' ≡ firsts_by eol ls) w') (line ∷ [])
-  takes_line seen' is there told w w' appends = record {
-    on = λ start ls at. record {
-      stands = rw (firsts_more, ← at.stands) is;
-      writes = rw (adds ls at.stands there told) (Appends-trans _ _ _ _ _ at.writes appends);
-    };
-  }
+  takes_line seen' is there told w w' appends = search (rules, firsts_more, adds, Appends-trans)
 
   -- a fault within a new line
   pub stops_in_line : has seen (strip_last eol line) ≡ false → (w w' : Option (List ℕ)) → AppendsPart w w' (as_line_by eol line)

@@ -1,4 +1,5 @@
 -- Texts by their places, and how often each came.
+use Rattle.std.proofs.lemmas.Bool.Decides.{nat_tests}
 use Rattle.dedup_core.proofs.Common.{◌≡◌, ℕ, ◌+◌, ◌-◌, ◌^◌, ◌<◌, true, false, cond, List, [], ◌∷◌, ◌++◌, length, get_or, slice_index_or, set, map, ap, sym, ◌∙◌, arith, count_by, bytes_eq, strip_last, common_steps, elements, same_number_lists, map-append, length-map, get_or-map, get_or_default, sum_by_push, EachOnce, StandsAt, has, with_text, has_all, has_there, once_with, min, times_of, Tallies}
 use Rattle.std.proofs.lemmas.Slice.Eq.{bytes_eq-Decides}
 use Rattle.dedup_core.proofs.SeenLemmas.{firsts_more}
@@ -7,10 +8,7 @@ use Rattle.dedup_core.proofs.SeenLemmas.{firsts_more}
 pub counted_place : (old new : List (List ℕ)) (text times : List ℕ) (place count : ℕ) → has old text ≡ true → new ≡ with_text old text
     → StandsAt new text place → length old ≡ length times → count ≡ slice_index_or times place count
     → (place < length times) × (count ≡ get_or times place 0)
-counted_place old new text times place count there is stands many read =
-    let same : new ≡ old = rw there at is in
-    let below : place < length times = omega (arith, stands.0, ap length same, many) in
-    (below, read ∙ get_or_default times place count 0 below)
+counted_place old new text times place count there is stands many read = grind (arith, nat_tests, common_steps, get_or_default)
 
 -- how often a text comes that is not there
 none_comes : (texts : List (List ℕ)) (text : List ℕ) → has texts text ≡ false → count_by (bytes_eq text) texts ≡ 0
@@ -46,9 +44,7 @@ module _ (eol : ℕ) where
   -- with a line more
   times_more : (ls : List (List ℕ)) (line text : List ℕ)
       → times_of eol (ls ++ line ∷ []) text ≡ min (times_of eol ls text + cond (bytes_eq text (strip_last eol line)) 1 0) (2 ^ 64 - 1)
-  times_more ls line text =
-      let more = sum_by_push (λ x. cond (bytes_eq text x) 1 0) (map (strip_last eol) ls) (strip_last eol line) in
-      rw map-append (omega (arith, more))
+  times_more ls line text = grind (arith, nat_tests, common_steps, sum_by_push, map-append)
 
   times_other : (ls : List (List ℕ)) (line text : List ℕ) → bytes_eq text (strip_last eol line) ≡ false
       → times_of eol (ls ++ line ∷ []) text ≡ times_of eol ls text
@@ -56,9 +52,7 @@ module _ (eol : ℕ) where
 
   times_again : (ls : List (List ℕ)) (line : List ℕ)
       → times_of eol (ls ++ line ∷ []) (strip_last eol line) ≡ one_more (times_of eol ls (strip_last eol line))
-  times_again ls line =
-      let text = strip_last eol line in
-      times_more ls line text ∙ ap (λ b. min (times_of eol ls text + cond b 1 0) (2 ^ 64 - 1)) (bytes_eq-same text)
+  times_again ls line = grind (arith, nat_tests, common_steps, times_more, bytes_eq-same)
 
   module _ (ls seen : List (List ℕ)) (times : List ℕ) (now : Tallies eol ls seen times) where
     pub as_many : length seen ≡ length times
@@ -91,10 +85,7 @@ module _ (eol : ℕ) where
           bytes_eq-Decides (get_or seen k []) text,
         )) in
         let one : after text ≡ 1 = grind (arith, times_more ls line text, none_so_far text absent, bytes_eq-Decides text text) in
-        record {
-          places = rw (firsts_more eol ls line, ← now.places) is;
-          counts = rw (longer, map-append after seen (text ∷ []), one) (ap (λ ns. ns ++ 1 ∷ []) kept);
-        }
+        grind (arith, nat_tests, common_steps, firsts_more, map-append)
 
     pub tallies_again : (line : List ℕ) (more : List (List ℕ)) (place : ℕ) → has seen (strip_last eol line) ≡ true
         → more ≡ with_text seen (strip_last eol line)

@@ -1,12 +1,10 @@
-use Rattle.dedup_core.proofs.Common.{ℕ, List, ◌≡◌, ◌<◌, ◌≤◌, ◌∷◌, ◌++◌, [], OnErr, length, ap, sym, subst, arith, strip_last, Appends-trans, AppendsPart, as_line_by, line_with_end, line_without_end, on_err, part_behind, part_longer}
+use Rattle.std.proofs.lemmas.Bool.Decides.{nat_tests}
+use Rattle.dedup_core.proofs.Common.{ℕ, List, ◌≡◌, ◌≤◌, ◌∷◌, ◌++◌, [], length, ap, sym, subst, arith, strip_last, Appends-trans, as_line_by, line_with_end, line_without_end, on_err, part_behind, part_longer, rules, common_steps}
 use Rattle.std.proofs.lemmas.Result.{on_err_weaker, on_ok_weaker}
 use Rattle.dedup_core.proofs.lines.write_line.Goals as goal
 
 pub returns-then-text-line-clause-err : goal.returns-then-text-line-clause-err
-returns-then-text-line-clause-err g c =
-    let longer = subst (λ text. length text < length c.args.line.now) c.requires c.if-text-line.true in
-    subst (λ l. OnErr c.write_all.result (AppendsPart (g.W.Write.contents c.args.w.now) (g.W.Write.contents c.write_all.new.w) l))
-    (sym (line_with_end c.args.eol c.args.line.now longer)) c.write_all.ensures.err
+returns-then-text-line-clause-err g c = search (rules, line_with_end)
 
 -- what is written of a line with no end
 with_end : (eol : ℕ) (line text : List ℕ) → text ≡ strip_last eol line → length line ≤ length text → as_line_by eol line ≡ line ++ eol ∷ []
@@ -18,9 +16,7 @@ returns-in_err-write_all-clause-err g c =
     on_err _ c.from_residual.result (part_longer _ _ _ _ _ (sym whole) c.in_err-write_all.ensures.err)
 
 pub returns-clause-ok : goal.returns-clause-ok
-returns-clause-ok g c =
-    let whole = with_end c.args.eol c.args.line.now c.args.text.now c.requires (omega (arith, c.if-text-line.false)) in
-    rw whole (on_ok_weaker c.write_all-3.result (Appends-trans _ _ _ _ _ c.in_ok-write_all.ensures.ok) c.write_all-3.ensures.ok)
+returns-clause-ok g c = grind (arith, nat_tests, common_steps, with_end, on_ok_weaker, Appends-trans)
 
 pub returns-clause-err : goal.returns-clause-err
 returns-clause-err g c =

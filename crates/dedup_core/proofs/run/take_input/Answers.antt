@@ -1,29 +1,22 @@
+use Rattle.std.proofs.lemmas.Bool.Decides.{nat_tests}
 use Rattle.std.proofs.KnownBytes.{Consumes-nil}
-use Rattle.dedup_core.proofs.Lemmas.{[], subst, sym, Keeps-refl, IsBare, on_err, Splits, bare_nothing, bare_rest, begins_all, breaks_before, breaks_behind, breaks_within, leads_both, leads_kept, leads_nowhere, reads_on, reads_to_end, reads_to_fault, splits_nowhere, stands_on, takes_on, bare_both}
+use Rattle.dedup_core.proofs.Lemmas.{[], subst, sym, Keeps-refl, IsBare, on_err, bare_nothing, bare_rest, begins_all, breaks_before, breaks_behind, breaks_within, leads_both, leads_kept, leads_nowhere, reads_on, reads_to_end, reads_to_fault, splits_nowhere, stands_on, takes_on, bare_both, arith, rules, common_steps}
 use Rattle.dedup_core.proofs.run.take_input.Goals as goal
 
 pub reads-init : goal.reads-init
 reads-init g c = (
   [],
-  record {
-    bytes = [];
-    read = Consumes-nil (g.R.Read.remaining c.args.r.now);
-    splits = subst (Splits c.args.eol [] []) (sym c.requires.unread) (splits_nowhere []);
-  },
+  grind (arith, nat_tests, common_steps, Consumes-nil, splits_nowhere),
   bare_nothing _ c.requires.unread,
   leads_nowhere _,
   c.requires.flushed,
 )
 
 pub take_lines-requires : goal.take_lines-requires
-take_lines-requires g c =
-    let (ls, reads, bare, leads, flushed) = c.reads.invariant in
-    record { stands = stands_on leads c.requires.stands }
+take_lines-requires g c = search (rules, stands_on)
 
 pub take_last-requires-clause-stands : goal.take_last-requires-clause-stands
-take_last-requires-clause-stands g c =
-    let (ls, reads, bare, leads, flushed) = c.reads.invariant in
-    stands_on leads c.requires.stands
+take_last-requires-clause-stands g c = grind (arith, nat_tests, common_steps, stands_on)
 
 pub returns-in_err-fill-clause-broke : goal.returns-in_err-fill-clause-broke
 returns-in_err-fill-clause-broke g c =

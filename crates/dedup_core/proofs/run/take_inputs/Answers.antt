@@ -1,13 +1,11 @@
-use Rattle.dedup_core.proofs.Lemmas.{◌<◌, true, false, map, length, sym, ◌∙◌, arith, rules, part_at_start, part_within, so_far_more, so_far_start}
+use Rattle.std.proofs.lemmas.Bool.Decides.{nat_tests}
+use Rattle.dedup_core.proofs.Lemmas.{◌<◌, true, false, length, sym, ◌∙◌, arith, rules, part_at_start, part_within, so_far_more, so_far_start, common_steps}
 use Rattle.std.proofs.Math.Bool.{and-false, and-true}
 use Rattle.dedup_core.proofs.run.take_inputs.Goals as goal
 use Rattle.dedup_core.proofs.run.take_inputs.Goals.{in-Done, in-Failed}
 
 pub returns-in_err-flush-clause-ended : goal.returns-in_err-flush-clause-ended
-returns-in_err-flush-clause-ended g c =
-    let lefts = map g.R.Read.remaining c.args.inputs.now in
-    let part = part_at_start {eol = c.args.eol} (g.T.LineTask.output c.args.eol) lefts _ _ c.requires.nothing c.flush.ensures.kept in
-    search rules
+returns-in_err-flush-clause-ended g c = grind (arith, nat_tests, common_steps, part_at_start)
 
 pub loop-place-init : goal.loop-place-init
 loop-place-init g c =

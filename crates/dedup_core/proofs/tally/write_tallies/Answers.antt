@@ -1,4 +1,5 @@
-use Rattle.dedup_core.proofs.Lemmas.{arith, ap, sym, subst, ◌∙◌, ◌++◌, drop, Appends, Appends-trans, drop_all, on_err, part_behind, part_longer, listed, listed_more, listed_told}
+use Rattle.std.proofs.lemmas.Bool.Decides.{nat_tests}
+use Rattle.dedup_core.proofs.Lemmas.{arith, ◌∙◌, Appends-trans, drop_all, on_err, part_behind, part_longer, listed, listed_more, listed_told, common_steps}
 use Rattle.std.proofs.lemmas.List.{append-nil}
 use Rattle.dedup_core.proofs.tally.write_tallies.Goals as goal
 
@@ -17,19 +18,9 @@ returns-in_err-write_all-clause-err g c =
     (part_behind _ _ _ _ _ written c.in_err-write_all.ensures.err))
 
 pub returns-clause-ok : goal.returns-clause-ok
-returns-clause-ok g c = λ ls now.
-    let (part, written, is) = c.loop-i.invariant in
-    let none = drop_all c.loop-i.i c.args.texts.now.texts (omega arith) in
-    subst (Appends (g.W.Write.contents c.args.w.now) (g.W.Write.contents c.loop-i.w))
-    (sym (append-nil part)
-    ∙ ap (λ seen. part ++ listed c.args.eol c.args.which seen (drop c.loop-i.i c.args.times.now)) (sym none)
-    ∙ is ∙ listed_told c.args.eol c.args.which ls _ _ now) written
+returns-clause-ok g c = grind (arith, nat_tests, common_steps, drop_all, append-nil, listed, listed_told)
 
 pub loop-i-preserved : goal.loop-i-preserved
 loop-i-preserved g c =
-    let (part, written, is) = c.loop-i.invariant in (
-      _,
-      Appends-trans _ _ _ _ _ written c.in_ok-write_all.ensures.ok,
-      listed_more c.args.eol c.args.which c.args.texts.now.texts c.args.times.now c.loop-i.i part _ _ _ (omega arith) (omega arith)
-          c.text_at.ensures (c.deref.ensures.value ∙ c.in_ok-show.ensures) is,
-    )
+    let (part, written, is) = c.loop-i.invariant in
+    grind (arith, nat_tests, common_steps, Appends-trans _ _ _ _ _ written c.in_ok-write_all.ensures.ok)

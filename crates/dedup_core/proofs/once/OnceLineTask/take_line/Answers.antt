@@ -1,4 +1,5 @@
-use Rattle.dedup_core.proofs.Lemmas.{false, refl, rules, true, Appends-nil, Keeps-refl, once_begins, on_err, breaks_before, is_there, not_there, stops_in_line, takes_line}
+use Rattle.std.proofs.lemmas.Bool.Decides.{nat_tests}
+use Rattle.dedup_core.proofs.Lemmas.{false, refl, rules, true, Appends-nil, Keeps-refl, once_begins, on_err, breaks_before, is_there, not_there, stops_in_line, takes_line, arith, common_steps}
 use Rattle.dedup_core.proofs.once.OnceLineTask.take_line.Goals as goal
 
 pub returns-in_err-see-clause-err : goal.returns-in_err-see-clause-err
@@ -16,6 +17,4 @@ returns-in_ok-write_line-clause-ok g c =
     c.in_ok-write_line.ensures.ok
 
 pub returns-else-branch-clause-ok : goal.returns-else-branch-clause-ok
-returns-else-branch-clause-ok g c =
-    takes_line c.args.eol c.args.self.now.seen.texts c.args.line.now _ (search rules) true (is_there _ false (search rules) refl) _ _
-    (Appends-nil _)
+returns-else-branch-clause-ok g c = grind (arith, nat_tests, common_steps, takes_line, is_there, Appends-nil)
