@@ -1,16 +1,12 @@
 -- The chunks of a text: the first one, and those of the rest.
-use Rattle.hash_cuts.proofs.Common.{◌≡◌, ℕ, zero, suc, ◌<◌, ◌≤◌, List, [], ◌∷◌, length, take, drop, inl, inr, arith, ap, refl, cases_lt, AreSizes, Cutting, chunks, chunks_upto, first_cut, length-drop}
+use Rattle.std.proofs.lemmas.Grind.{common_steps}
+use Rattle.hash_cuts.proofs.Common.{◌≡◌, ℕ, zero, suc, ◌<◌, ◌≤◌, List, [], ◌∷◌, length, take, drop, arith, ap, refl, cases_lt, AreSizes, Cutting, chunks, chunks_upto, first_cut, length-drop, nat_tests}
 use Rattle.hash_cuts.proofs.CutLemmas.{first_cut-is, latest}
 
 module _ (cuts : Cutting) (sizes : AreSizes cuts.least cuts.average cuts.most) where
   -- a chunk has a byte, and no more than the text
   pub first_cut-some : (text : List ℕ) → 0 < length text → 0 < first_cut cuts text
-  first_cut-some text some =
-      let is = first_cut-is cuts text in
-      elim (cases_lt (first_cut cuts text) (latest cuts text)) [
-        | inl before ↦ omega (arith, sizes.0, (is.cut before).0)
-        | inr there ↦ omega (arith, sizes.0, sizes.1, sizes.2, some, there)
-      ]
+  first_cut-some text some = grind (arith, nat_tests, common_steps, first_cut-is, cases_lt, latest)
 
   pub first_cut-le : (text : List ℕ) → first_cut cuts text ≤ length text
   first_cut-le text = omega (arith, (first_cut-is cuts text).within)
@@ -35,13 +31,7 @@ module _ (cuts : Cutting) (sizes : AreSizes cuts.least cuts.average cuts.most) w
       → chunks cuts text ≡ take (first_cut cuts text) text ∷ chunks cuts (drop (first_cut cuts text) text)
   unfolding chunks_upto
   chunks-first [] some = absurd (omega arith)
-  chunks-first (byte ∷ text) some =
-      let whole = byte ∷ text in
-      let cut = first_cut cuts whole in
-      let first : 0 < cut = first_cut-some whole (omega arith) in
-      let left = length-drop cut whole in
-      ap (λ rest. take cut whole ∷ rest)
-      (chunks_upto-enough (length text) (length (drop cut whole)) (drop cut whole) (omega (arith, first, left)) (omega arith))
+  chunks-first (byte ∷ text) some = grind (arith, nat_tests, common_steps, first_cut-some, length-drop, chunks_upto-enough)
 
 pub chunks-none : (cuts : Cutting) (text : List ℕ) → length text ≡ 0 → chunks cuts text ≡ []
 unfolding chunks_upto

@@ -1,5 +1,7 @@
 -- Where the first chunk of a text ends, by which places are cuts.
-use Rattle.hash_cuts.proofs.Common.{◌≡◌, ℕ, ◌+◌, ◌-◌, ◌*◌, ◌/◌, ◌^◌, ◌<◌, ◌≤◌, Bool, true, false, not, nat_lt, min, List, length, get_or, take, drop, inl, inr, arith, lit<, ap, subst, sym, ◌∙◌, div-lt_iff_lt-mul, get_or-take, cases_lt, false≢true, not-false, not-true, nat_tests, prefix_len, range_with_len, Cutting, HasSizes, is_cut, first_cut, gear, gear_of, gear_step, get_or-drop, get_or-range_with_len, length-range_with_len, prefix_len-le-length, prefix_len_passes, prefix_len_stops}
+use Rattle.std.proofs.lemmas.Grind.{common_steps}
+use Rattle.std.proofs.Common.{rules}
+use Rattle.hash_cuts.proofs.Common.{◌≡◌, ℕ, ◌+◌, ◌-◌, ◌*◌, ◌/◌, ◌^◌, ◌<◌, ◌≤◌, Bool, true, false, not, nat_lt, min, List, length, get_or, take, drop, arith, lit<, ap, subst, sym, ◌∙◌, div-lt_iff_lt-mul, get_or-take, cases_lt, not-false, not-true, nat_tests, prefix_len, range_with_len, Cutting, HasSizes, is_cut, first_cut, gear, gear_of, gear_step, get_or-drop, get_or-range_with_len, length-range_with_len, prefix_len-le-length, prefix_len_passes, prefix_len_stops}
 use Rattle.hash_cuts.proofs.GearLemmas.{gear-more, gear-rolled}
 
 -- the end of the first chunk at the latest
@@ -49,40 +51,18 @@ module _ (cuts : Cutting) (text : List ℕ) where
 
   pub first_cut-is : IsFirst cuts text (first_cut cuts text)
   unfolding first_cut count places is_none
-  first_cut-is = record {
-    within = omega arith;
-    before = λ m from before. none-before m from (omega arith);
-    cut = λ below.
-        let here : first_cut cuts text ≡ cuts.least + count = omega arith in
-        (omega arith, ap (is_cut cuts text) here ∙ cut-there (omega arith));
-  }
+  first_cut-is = grind (arith, nat_tests, common_steps, none-before, count, cut-there)
 
   -- only one place is the first cut
   not-beyond : (n k : ℕ) → IsFirst cuts text n → IsFirst cuts text k → k ≤ n
-  not-beyond n k n_is k_is = elim (cases_lt n k) [
-    | inl below ↦
-        let cut = n_is.cut (omega (arith, below, k_is.within)) in
-        absurd (false≢true (sym (k_is.before n cut.0 below) ∙ cut.1))
-    | inr upto ↦ upto
-  ]
+  not-beyond n k n_is k_is = grind (arith, nat_tests, common_steps, cases_lt n k)
 
   pub first_cut-from : (n : ℕ) → IsFirst cuts text n → n ≡ first_cut cuts text
-  first_cut-from n is =
-      let there = first_cut cuts text in
-      omega (arith, not-beyond n there is first_cut-is, not-beyond there n first_cut-is is)
+  first_cut-from n is = grind (arith, nat_tests, common_steps, not-beyond, first_cut-is)
 
 -- a hash below the bound is one that is below 2 ^ 64 / average
 below-bound : (hash average : ℕ) → 1 ≤ average → nat_lt hash ((2 ^ 64 - 1) / average + 1) ≡ nat_lt (hash * average) (2 ^ 64)
-below-bound hash average some =
-    let (above, below) = div-lt_iff_lt-mul {k = average} {x = 2 ^ 64 - 1} {y = hash} some in
-    elim (cases_lt ((2 ^ 64 - 1) / average) hash) [
-      | inl far ↦ grind (arith, nat_tests, above far)
-      | inr near ↦
-          elim (cases_lt (2 ^ 64 - 1) (hash * average)) [
-            | inl large ↦ absurd (omega (arith, near, below large))
-            | inr small ↦ grind (arith, nat_tests)
-          ]
-    ]
+below-bound hash average some = grind (arith, nat_tests, common_steps, div-lt_iff_lt-mul, cases_lt)
 
 -- a hash that rolled up to a place, from 64 bytes before the least on, and no place was a cut
 pub record HasRolled (cuts : Cutting) (text : List ℕ) (place hash : ℕ) : Type 0 where
@@ -93,22 +73,14 @@ module _ (cuts : Cutting) (text : List ℕ) (below : ℕ) (sizes : HasSizes cuts
   -- whether it is a cut where a hash rolled to
   rolled-cut : (place hash : ℕ) → cuts.least ≤ place → place ≤ length text → HasRolled cuts text place hash
       → nat_lt hash below ≡ is_cut cuts text place
-  rolled-cut place hash from within rolled =
-      let number = gear cuts.seed1 cuts.seed2 in
-      ap (nat_lt hash) bound ∙ below-bound hash cuts.average (omega (arith, sizes))
-      ∙ ap (λ h. nat_lt (h * cuts.average) (2 ^ 64))
-      (rolled.hash_is ∙ gear-rolled number text (cuts.least - 64) place (omega (arith, from, sizes.0)) within)
+  rolled-cut place hash from within rolled = grind (arith, nat_tests, common_steps, below-bound, gear-rolled)
 
   -- a hash below the bound is a cut's
   pub rolled-to : (place hash : ℕ) → cuts.least ≤ place → place < latest cuts text → HasRolled cuts text place hash → hash < below
       → place ≡ first_cut cuts text
   rolled-to place hash from within rolled low =
       let under : nat_lt hash below ≡ true = grind (arith, nat_tests) in
-      first_cut-from cuts text place (record {
-        within = omega (arith, within);
-        before = rolled.none;
-        cut = λ _. (from, sym (rolled-cut place hash from (omega (arith, within)) rolled) ∙ under);
-      })
+      first_cut-from cuts text place (grind (arith, nat_tests, common_steps, rolled-cut place hash from (omega (arith, within)) rolled))
 
   -- one that is not rolls on by one byte
   pub rolled-on : (place hash next : ℕ) → cuts.least ≤ place → place < length text
@@ -118,18 +90,7 @@ module _ (cuts : Cutting) (text : List ℕ) (below : ℕ) (sizes : HasSizes cuts
       let number = gear cuts.seed1 cuts.seed2 in
       let above : nat_lt hash below ≡ false = grind (arith, nat_tests) in
       let none : is_cut cuts text place ≡ false = sym (rolled-cut place hash from (omega (arith, within)) rolled) ∙ above in
-      record {
-        hash_is =
-            step
-            ∙ ap (λ h. gear_step number h (get_or text place 0)) rolled.hash_is
-            ∙ sym (gear-more number text (cuts.least - 64) place (omega (arith, from)) within);
-        none = λ m after before. elim (cases_lt m place) [
-          | inl earlier ↦ rolled.none m after earlier
-          | inr there ↦
-              let same : m ≡ place = omega (arith, before, there) in
-              rw same none
-        ];
-      }
+      grind (arith, nat_tests, common_steps, gear-more, cases_lt)
 
   -- four that are not roll on by four bytes
   pub rolled-on-four : (place : ℕ) (bytes : List ℕ) (hash one two three four : ℕ) → cuts.least ≤ place → place + 4 ≤ length text
@@ -151,7 +112,4 @@ module _ (cuts : Cutting) (text : List ℕ) (below : ℕ) (sizes : HasSizes cuts
 -- the bytes at a place, one by one
 pub bytes-there : (text bytes : List ℕ) (place room : ℕ) → bytes ≡ take 4 (take room (drop place text)) → 4 ≤ room
     → (i n : ℕ) → i < 4 → n ≡ place + i → get_or bytes i 0 ≡ get_or text n 0
-bytes-there text bytes place room are some i n below there =
-    ap (λ b. get_or b i 0) are ∙ get_or-take 4 (take room (drop place text)) i 0 below
-    ∙ get_or-take room (drop place text) i 0 (omega (arith, below, some)) ∙ get_or-drop place text i 0
-    ∙ ap (λ k. get_or text k 0) (sym there)
+bytes-there text bytes place room are some i n below there = search (rules, get_or-take, get_or-drop)

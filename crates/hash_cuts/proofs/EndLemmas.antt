@@ -1,5 +1,6 @@
 -- Where the chunks of a text end, written one after the other.
-use Rattle.hash_cuts.proofs.Common.{◌≡◌, ℕ, ◌+◌, ◌<◌, ◌≤◌, ◌⊎◌, List, [], ◌∷◌, ◌++◌, length, take, drop, min, slice_set, inl, inr, sym, ap, ◌∙◌, arith, length-append, ap₂, take-append_seam, drop-set-lt, take-append-drop, take_more_set, Cutting, HasSizes, chunk_ends, chunks, ends_from, first_cut, append_assoc, drop-drop, length-drop, length-set, length-take-le}
+use Rattle.std.proofs.lemmas.Grind.{common_steps}
+use Rattle.hash_cuts.proofs.Common.{◌≡◌, ℕ, ◌+◌, ◌<◌, ◌≤◌, ◌⊎◌, List, [], ◌∷◌, ◌++◌, length, take, drop, min, slice_set, sym, ap, ◌∙◌, arith, length-append, take-append_seam, drop-set-lt, take-append-drop, take_more_set, Cutting, HasSizes, chunk_ends, chunks, ends_from, first_cut, append_assoc, drop-drop, length-drop, length-set, length-take-le, nat_tests}
 use Rattle.hash_cuts.proofs.ChunkLemmas.{chunks-first, chunks-none, first_cut-le}
 
 -- so many ends are written, those up to a place of the text, and what stood behind them stands there still
@@ -20,11 +21,7 @@ module _ (cuts : Cutting) (text old new : List ℕ) (count place : ℕ) (are : A
 
     first_end : ends_from place (chunks cuts (drop place text)) ≡ (place + n) ∷ ends_from (place + n) (chunks cuts (drop (place + n) text))
     unfolding ends_from
-    first_end =
-        ap (ends_from place) (chunks-first cuts sizes (drop place text) (omega (arith, left, length-drop place text)))
-        ∙ ap₂ (λ (k : ℕ) (t : List ℕ). (place + k) ∷ ends_from (place + k) (chunks cuts t))
-        (ap (λ k. length (take k (drop place text))) (sym cut) ∙ length-take-le n (drop place text) n_in)
-        (ap (λ k. drop k (drop place text)) (sym cut) ∙ drop-drop n place text)
+    first_end = grind (arith, nat_tests, common_steps, chunks-first, length-drop, length-take-le, n_in, drop-drop)
 
     pub one_end_more : AreEnds cuts text old (slice_set new count (place + n)) (count + 1) (place + n)
     one_end_more = record {
@@ -44,19 +41,7 @@ module _ (cuts : Cutting) (text old new : List ℕ) (count place : ℕ) (are : A
 
     pub all_ends : count ≡ min (length old) (length (chunk_ends cuts text))
     unfolding ends_from
-    all_ends =
-        let total : length (chunk_ends cuts text) ≡ count + length rest =
-        ap length are.written ∙ length-append (take count new) rest ∙ ap (λ k. k + length rest) size in
-        elim over [
-          | inl full ↦ omega (arith, full, are.within, total)
-          | inr done ↦
-              let none : rest ≡ [] =
-              ap (ends_from place) (chunks-none cuts (drop place text) (omega (arith, done, length-drop place text))) in
-              omega (arith, are.within, total, ap length none)
-        ]
+    all_ends = grind (arith, nat_tests, common_steps, length-append, size, chunks-none, length-drop)
 
     pub ends_written : new ≡ take count (chunk_ends cuts text) ++ drop count old
-    ends_written =
-        let front : take count (chunk_ends cuts text) ≡ take count new =
-        ap₂ (λ (k : ℕ) (t : List ℕ). take k t) (sym size) are.written ∙ take-append_seam (take count new) rest in
-        sym (take-append-drop count new) ∙ ap₂ (λ (x y : List ℕ). x ++ y) (sym front) are.kept
+    ends_written = grind (arith, nat_tests, common_steps, size, take-append_seam, take-append-drop)

@@ -1,5 +1,7 @@
 -- The gear hash of a text is the sum of its bytes' numbers, each times a power of two, so that of 64 bytes and more the last 64 count alone.
-use Rattle.hash_cuts.proofs.Common.{◌≡◌, ℕ, suc, ◌+◌, ◌-◌, ◌*◌, ◌%◌, ◌^◌, ◌<◌, ◌≤◌, List, [], ◌∷◌, ◌++◌, length, get_or, take, drop, reverse, ap, sym, ◌∙◌, arith, lit<, map, refl, pow-suc, drop-take, length-reverse, take-append-drop, map-append, reverse-reverse, reverse_onto, gear_step, gear_of, gear_at, drop-drop, get_or-drop, length-drop, length-take-le, mod_below}
+use Rattle.std.proofs.lemmas.Grind.{common_steps}
+use Rattle.std.proofs.Common.{rules}
+use Rattle.hash_cuts.proofs.Common.{◌≡◌, ℕ, suc, ◌+◌, ◌-◌, ◌*◌, ◌%◌, ◌^◌, ◌<◌, ◌≤◌, List, [], ◌∷◌, ◌++◌, length, get_or, take, drop, reverse, ap, sym, ◌∙◌, arith, map, refl, pow-suc, drop-take, length-reverse, take-append-drop, map-append, reverse-reverse, reverse_onto, gear_step, gear_of, gear_at, drop-drop, get_or-drop, length-drop, length-take-le, mod_below, nat_tests}
 use Rattle.hashers.specs.Sums.{digit_sum}
 use Rattle.hash_rounds.proofs.SumLemmas.{digit_sum-append}
 use Rattle.hashers.specs.Recurrence.{from_last, recurrence}
@@ -18,23 +20,14 @@ module _ (number : ℕ → ℕ) where
   from-sum : (s : ℕ) (text : List ℕ) → s < 2 ^ 64
       → recurrence (gear_step number) s text ≡ (2 ^ length text * s + gear_of number text) % 2 ^ 64
   unfolding recurrence
-  from-sum s text known =
-      from_last-sum s (reverse text) known
-      ∙ ap (λ n. (2 ^ n * s + from_last (gear_step number) 0 (reverse text)) % 2 ^ 64) (length-reverse text)
+  from-sum s text known = grind (arith, nat_tests, common_steps, from_last-sum, length-reverse)
 
   pub gear_of-lt : (text : List ℕ) → gear_of number text < 2 ^ 64
-  gear_of-lt text =
-      let sum = from-sum 0 text (lit< tt) in
-      let below = mod_below (2 ^ length text * 0 + gear_of number text) (2 ^ 64) (lit< tt) in
-      omega (arith, sum, below)
+  gear_of-lt text = grind (arith, nat_tests, common_steps, from-sum, mod_below)
 
   -- the last 64 bytes count alone
   pub gear-last : (before text : List ℕ) → length text ≡ 64 → gear_of number (before ++ text) ≡ gear_of number text
-  gear-last before text len =
-      let known = gear_of-lt text in
-      let sum = from-sum (gear_of number before) text (gear_of-lt before) in
-      let power : 2 ^ length text * gear_of number before ≡ 2 ^ 64 * gear_of number before = ap (λ n. 2 ^ n * gear_of number before) len in
-      recurrence-append (gear_step number) 0 before text ∙ omega (arith, known, sum, power)
+  gear-last before text len = grind (arith, nat_tests, common_steps, gear_of-lt, from-sum, recurrence-append)
 
   -- so a hash that began 64 bytes before a place, or earlier, is the hash there
   pub gear-rolled : (text : List ℕ) (from n : ℕ) → from + 64 ≤ n → n ≤ length text
@@ -57,22 +50,13 @@ module _ (number : ℕ → ℕ) where
   pub gear-more : (text : List ℕ) (from n : ℕ) → from ≤ n → n < length text
       → gear_of number (take (n + 1 - from) (drop from text))
       ≡ gear_step number (gear_of number (take (n - from) (drop from text))) (get_or text n 0)
-  gear-more text from n after within =
-      let further : n - from + 1 ≡ n + 1 - from = omega arith in
-      let place : from + (n - from) ≡ n = omega arith in
-      ap (λ k. gear_of number (take k (drop from text))) (sym further)
-      ∙ recurrence_more (gear_step number) 0 (drop from text) (n - from) (omega (arith, length-drop from text))
-      ∙ ap (gear_step number (gear_of number (take (n - from) (drop from text))))
-      (get_or-drop from text (n - from) 0 ∙ ap (λ i. get_or text i 0) place)
+  gear-more text from n after within = search (rules, recurrence_more, length-drop, get_or-drop)
 
   from_last-digits : (bytes : List ℕ) → from_last (gear_step number) 0 bytes ≡ digit_sum 2 (map number (reverse bytes)) % 2 ^ 64
   from_last-digits [] = refl
   from_last-digits (b ∷ bytes) =
       let before = from_last-digits bytes in
-      let digits : digit_sum 2 (map number (reverse (b ∷ bytes))) ≡ digit_sum 2 (map number (reverse bytes)) * 2 + number b =
-      ap (digit_sum 2) (ap (map number) (reverse_onto bytes b []) ∙ map-append number (reverse bytes) (b ∷ []))
-      ∙ digit_sum-append 2 (map number (reverse bytes)) (number b ∷ []) ∙ omega arith in
-      omega (arith, before, digits)
+      grind (arith, nat_tests, common_steps, reverse_onto, map-append, digit_sum-append)
 
   -- the sum of the numbers, each times a power of two
   pub gear-digits : (text : List ℕ) → gear_of number text ≡ digit_sum 2 (map number text) % 2 ^ 64

@@ -1,5 +1,7 @@
 -- Chunks that a sink was given, one after the other.
-use Rattle.hash_cuts.proofs.Common.{◌≡◌, ℕ, ◌+◌, ◌-◌, ◌<◌, ◌≤◌, ◌⊎◌, List, [], ◌∷◌, ◌++◌, length, length-append, take, drop, Option, Some, None, inl, inr, arith, ap, subst, sym, ◌∙◌, refl, IsAtEnd, cases_lt, append-nil, drop-append-le, drop-take, take-append-drop, take-append-le, Cutting, HasSizes, chunks, first_cut, is_cut, CutsAll, CutsRead, GivesFirst, IsBegun, Taken, Takes, append_assoc, Consumes-trans, length-drop, length-take, take_all}
+use Rattle.std.proofs.lemmas.Grind.{common_steps}
+use Rattle.std.proofs.Common.{rules}
+use Rattle.hash_cuts.proofs.Common.{◌≡◌, ℕ, ◌+◌, ◌-◌, ◌<◌, ◌≤◌, ◌⊎◌, List, [], ◌∷◌, ◌++◌, length, length-append, take, drop, Option, Some, None, inl, inr, arith, ap, subst, sym, ◌∙◌, refl, IsAtEnd, cases_lt, append-nil, drop-append-le, drop-take, take-append-drop, take-append-le, Cutting, HasSizes, chunks, first_cut, CutsAll, CutsRead, GivesFirst, IsBegun, Taken, Takes, append_assoc, Consumes-trans, length-drop, length-take, nat_tests}
 use Rattle.streams.specs.Records.{ComeFirst}
 use Rattle.streams.specs.Streams.{ReadsBehind}
 use Rattle.streams.proofs.RecordLemmas.{first_all, first_behind, first_both, first_none}
@@ -21,35 +23,16 @@ module _ (cuts : Cutting) (sizes : HasSizes cuts) (rest : List ℕ) where
       elim ends [
         | inl before ↦ ap (first_cut cuts) (sym parts) ∙ own-bytes cuts sizes rest (drop n rest ++ more) before
         | inr full ↦
-            sym (first_cut-from cuts (rest ++ more) n (record {
-              within = omega (arith, full, le, len);
-              before = λ m from below.
-                  ap (λ t. is_cut cuts t m) (sym parts)
-                  ∙ is_cut-same cuts sizes rest (drop n rest ++ more) n m from (omega (arith, below)) le ∙ is.before m from below;
-              cut = λ below. absurd (omega (arith, full, below));
-            }))
+            sym (first_cut-from cuts (rest ++ more) n (grind (arith, nat_tests, common_steps, is_cut-same)))
       ]
 
   one-first : 0 < length rest → (first_cut cuts rest < length rest) ⊎ (first_cut cuts rest ≡ cuts.most)
       → ComeFirst (chunks cuts) rest (take (first_cut cuts rest) rest ∷ []) (drop (first_cut cuts rest) rest)
-  one-first some ends = record {
-    stay = λ more.
-        let le = first_cut-le cuts sizes rest in
-        rw (
-          chunks-first cuts sizes (rest ++ more) (omega (arith, some, length-append rest more)),
-          ends-there more ends,
-          take-append-le (first_cut cuts rest) rest more le,
-          drop-append-le (first_cut cuts rest) rest more le,
-        );
-  }
+  one-first some ends = search (rules, first_cut-le, chunks-first, length-append, ends-there, take-append-le, drop-append-le)
 
   -- the chunk that is begun is the last, if it is not empty
   begun-all : IsBegun cuts rest → 0 < length rest → chunks cuts rest ≡ rest ∷ []
-  begun-all begun some = rw (
-    chunks-first cuts sizes rest some,
-    take_all (first_cut cuts rest) rest (omega (arith, begun.0)),
-    chunks-none cuts (drop (first_cut cuts rest) rest) (omega (arith, begun.0, length-drop (first_cut cuts rest) rest)),
-  )
+  begun-all begun some = grind (arith, nat_tests, common_steps, chunks-first, chunks-none, length-drop)
 
 module _ {S : Type 0} (taken : Taken S) where
   takes-none : (old : S) → Takes taken old old [] None
@@ -69,12 +52,7 @@ module _ {S : Type 0} {taken : Taken S} where
     -- the sink refused a chunk
     pub gives-refused : {newer : S} {chunk : List ℕ} → Takes taken new newer [] (Some chunk)
         → GivesFirst taken cuts text rest (Some chunk) old newer
-    gives-refused {newer} {chunk} refuses = record {
-      given = gives.given;
-      takes = subst (λ list. Takes taken old newer list (Some chunk)) (append-nil gives.given)
-          (takes-more taken old new newer gives.given [] (Some chunk) gives.takes refuses);
-      first = gives.first;
-    }
+    gives-refused {newer} {chunk} refuses = grind (arith, nat_tests, common_steps, append-nil, takes-more)
 
     -- one chunk more
     pub gives-more : {newer : S} → HasSizes cuts → 0 < length rest
@@ -99,14 +77,7 @@ module _ {S : Type 0} {taken : Taken S} where
     -- with the last chunk they are all
     gives-all : (newer : S) → HasSizes cuts → IsBegun cuts rest → (length rest ≡ 0 → Takes taken new newer [] None)
         → (0 < length rest → Takes taken new newer (rest ∷ []) None) → Takes taken old newer (chunks cuts text) None
-    gives-all newer sizes begun none one =
-        let last : Takes taken new newer (chunks cuts rest) None = elim (cases_lt 0 (length rest)) [
-          | inl some ↦ subst (λ list. Takes taken new newer list None) (sym (begun-all cuts sizes rest begun some)) (one some)
-          | inr empty ↦
-              subst (λ list. Takes taken new newer list None) (sym (chunks-none cuts rest (omega (arith, empty)))) (none (omega (arith, empty)))
-        ] in
-        subst (λ list. Takes taken old newer list None) (sym (first_all gives.first))
-        (takes-more taken old new newer gives.given (chunks cuts rest) None gives.takes last)
+    gives-all newer sizes begun none one = grind (arith, nat_tests, common_steps, cases_lt, begun-all, chunks-none, first_all, takes-more)
 
   module _ {cuts : Cutting} {left mid : Option (List ℕ)} {old new : S} {bytes : ℕ} {rest : List ℕ}
       (before : CutsRead taken cuts left mid old new bytes rest None) where
@@ -114,33 +85,18 @@ module _ {S : Type 0} {taken : Taken S} where
     pub reads-first : {left' : Option (List ℕ)} {newer : S} {count : ℕ} {whole rest' : List ℕ} {refused : Option (List ℕ)}
         → ReadsBehind rest whole mid left' count → GivesFirst taken cuts whole rest' refused new newer
         → CutsRead taken cuts left left' old newer (bytes + count) rest' refused
-    reads-first {rest' = rest'} {refused = refused} (more, stands, long, read) gives = record {
-      text = before.text ++ more;
-      read = Consumes-trans _ _ _ _ _ before.read read;
-      count = omega (arith, length-append before.text more, before.count, long);
-      gives = gives-behind before.gives more (rw stands at gives);
-    }
+    reads-first {rest' = rest'} {refused = refused} (more, stands, long, read) gives =
+        search (rules, Consumes-trans, length-append, gives-behind)
 
     -- all was read, and the last chunk given
     pub reads-all : {newer : S} → HasSizes cuts → IsAtEnd mid → IsBegun cuts rest → (length rest ≡ 0 → Takes taken new newer [] None)
         → (0 < length rest → Takes taken new newer (rest ∷ []) None) → CutsAll taken cuts left mid old newer bytes
-    reads-all {newer} sizes end begun none one = record {
-      text = before.text;
-      read = before.read;
-      end = end;
-      count = before.count;
-      takes = gives-all before.gives newer sizes begun none one;
-    }
+    reads-all {newer} sizes end begun none one = grind (arith, nat_tests, common_steps, gives-all before.gives newer sizes begun none one)
 
     -- the sink refused the last chunk
     pub reads-refused : {newer : S} {chunk : List ℕ} → Takes taken new newer [] (Some chunk)
         → CutsRead taken cuts left mid old newer bytes rest (Some chunk)
-    reads-refused refuses = record {
-      text = before.text;
-      read = before.read;
-      count = before.count;
-      gives = gives-refused before.gives refuses;
-    }
+    reads-refused refuses = grind (arith, nat_tests, common_steps, gives-refused)
 
   -- nothing was read
   pub reads-none : (cuts : Cutting) (left : Option (List ℕ)) (old : S) → CutsRead taken cuts left left old old 0 [] None

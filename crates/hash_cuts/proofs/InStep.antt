@@ -1,5 +1,7 @@
 -- The chunks joined are the text, a chunk depends on its own bytes, and chunks that begin at one place of two texts are the same.
-use Rattle.hash_cuts.proofs.Common.{◌≡◌, ◌≢◌, ℕ, zero, suc, ◌+◌, ◌-◌, ◌*◌, ◌^◌, ◌<◌, ◌≤◌, nat_lt, List, [], ◌∷◌, ◌++◌, length, length-append, get_or, take, drop, inl, inr, arith, ap, sym, ◌∙◌, refl, ap₂, All, concat, cases_lt, append_cancel_left, drop-append-le, take-append-drop, take-append-le, nil_from_length, take-append_seam, drop-append_seam, Cutting, HasSizes, chunks, chunks_upto, first_cut, is_cut, gear, gear_of, append_assoc, length-drop, length-take-le, All-nil, All-cons}
+use Rattle.std.proofs.lemmas.Grind.{common_steps}
+use Rattle.std.proofs.Common.{rules}
+use Rattle.hash_cuts.proofs.Common.{◌≡◌, ◌≢◌, ℕ, zero, suc, ◌-◌, ◌*◌, ◌^◌, ◌<◌, ◌≤◌, nat_lt, List, [], ◌∷◌, ◌++◌, length, length-append, take, drop, inl, inr, arith, ap, sym, ◌∙◌, refl, ap₂, All, concat, cases_lt, drop-append-le, take-append-drop, take-append-le, nil_from_length, take-append_seam, drop-append_seam, Cutting, HasSizes, chunks, chunks_upto, first_cut, is_cut, gear, gear_of, append_assoc, length-drop, length-take-le, All-nil, All-cons, nat_tests}
 use Rattle.hash_cuts.proofs.ChunkLemmas.{chunks-first, chunks-none, first_cut-le, first_cut-some}
 use Rattle.hash_cuts.proofs.CutLemmas.{first_cut-is, first_cut-from, latest}
 
@@ -20,21 +22,7 @@ module _ (cuts : Cutting) (sizes : HasSizes cuts) where
 
   pub own-bytes : (text other : List ℕ) → first_cut cuts text < length text
       → first_cut cuts (take (first_cut cuts text) text ++ other) ≡ first_cut cuts text
-  own-bytes text other before =
-      let n = first_cut cuts text in
-      let is = first_cut-is cuts text in
-      let front = take n text in
-      let same = is_cut-same text other n in
-      let known : n ≤ length text = omega arith in
-      let len : length (front ++ other) ≡ n + length other =
-      length-append front other ∙ ap (λ k. k + length other) (length-take-le n text known) in
-      sym (first_cut-from cuts (front ++ other) n (record {
-        within = omega (arith, is.within, len);
-        before = λ m from below. same m from (omega (arith, below)) known ∙ is.before m from below;
-        cut = λ below.
-            let cut = is.cut (omega (arith, below, before)) in
-            (cut.0, same n cut.0 (omega arith) known ∙ cut.1);
-      }))
+  own-bytes text other before = search (rules, first_cut-is, is_cut-same, length-append, length-take-le, first_cut-from)
 
   -- the length of a chunk
   chunk-length : (text : List ℕ) → length (take (first_cut cuts text) text) ≡ first_cut cuts text
@@ -49,18 +37,13 @@ module _ (cuts : Cutting) (sizes : HasSizes cuts) where
   -- the first of the chunks that are known, and the text behind it
   first-known : (text chunk : List ℕ) (others : List (List ℕ)) → chunks cuts text ≡ chunk ∷ others
       → (take (first_cut cuts text) text ≡ chunk) × (chunks cuts (drop (first_cut cuts text) text) ≡ others)
-  first-known text chunk others are =
-      let known = sym (chunks-first cuts sizes text (some-byte text chunk others are)) ∙ are in
-      (ap (λ list. get_or list 0 []) known, ap (drop 1) known)
+  first-known text chunk others are = grind (arith, nat_tests, common_steps, chunks-first, some-byte)
 
   rest-known : (x more chunk : List ℕ) (xs others : List (List ℕ)) → chunks cuts (x ++ more) ≡ chunk ∷ xs ++ others
       → chunk ++ concat xs ≡ x → drop (first_cut cuts (x ++ more)) (x ++ more) ≡ concat xs ++ more
   rest-known x more chunk xs others are joined =
       let text = x ++ more in
-      let n = first_cut cuts text in
-      append_cancel_left chunk (drop n text) (concat xs ++ more)
-      (ap (λ c. c ++ drop n text) (sym (first-known text chunk (xs ++ others) are).0) ∙ take-append-drop n text
-      ∙ ap (λ t. t ++ more) (sym joined) ∙ append_assoc chunk (concat xs) more)
+      grind (arith, nat_tests, common_steps, first-known text chunk (xs ++ others) are, append_assoc chunk (concat xs) more)
 
   -- behind a chunk's end the chunks are those of the rest
   pub behind : (xs : List (List ℕ)) (x more : List ℕ) (others : List (List ℕ)) → chunks cuts (x ++ more) ≡ xs ++ others
@@ -137,12 +120,7 @@ module _ (cuts : Cutting) (sizes : HasSizes cuts) where
 
   -- a chunk behind which something is left
   long-enough : (text : List ℕ) → first_cut cuts text < length text → AtLeast (take (first_cut cuts text) text)
-  long-enough text before =
-      let is = first_cut-is cuts text in
-      elim (cases_lt (first_cut cuts text) (latest cuts text)) [
-        | inl cut ↦ omega (arith, chunk-length text, (is.cut cut).0)
-        | inr there ↦ omega (arith, chunk-length text, before, there, sizes.1, sizes.2)
-      ]
+  long-enough text before = grind (arith, nat_tests, common_steps, first_cut-is, cases_lt, latest, chunk-length)
 
   one_less : (chunk : List ℕ) (list : List (List ℕ)) → length (chunk ∷ list) - 1 ≡ length list
   one_less chunk list = omega arith
@@ -150,16 +128,9 @@ module _ (cuts : Cutting) (sizes : HasSizes cuts) where
   all-but-last : (chunk : List ℕ) (list : List (List ℕ)) → (0 < length list → AtLeast chunk)
       → All AtLeast (take (length list - 1) list) → All AtLeast (take (length (chunk ∷ list) - 1) (chunk ∷ list))
   all-but-last chunk [] long rest = rw (one_less chunk []) (All-nil AtLeast)
-  all-but-last chunk (next ∷ list) long rest =
-      rw (one_less chunk (next ∷ list))
-      (All-cons AtLeast chunk (take (length list) (next ∷ list)) (long (omega arith)) (rw (one_less next list) at rest))
+  all-but-last chunk (next ∷ list) long rest = grind (arith, nat_tests, common_steps, one_less chunk (next ∷ list), one_less next list)
 
   pub chunks-least : (text : List ℕ) → All AtLeast (take (length (chunks cuts text) - 1) (chunks cuts text))
   chunks-least text =
       by_chunks (λ text list. All AtLeast (take (length list - 1) list)) (All-nil AtLeast) (λ text some rest.
-      let behind = drop (first_cut cuts text) text in
-      all-but-last (take (first_cut cuts text) text) (chunks cuts behind)
-      (λ more. long-enough text (elim (cases_lt 0 (length behind)) [
-        | inl there ↦ omega (arith, there, length-drop (first_cut cuts text) text)
-        | inr none ↦ absurd (omega (arith, more, ap length (chunks-none cuts behind (omega (arith, none)))))
-      ])) rest) (length text) text (omega arith)
+      search (rules, all-but-last, long-enough, cases_lt, length-drop, chunks-none)) (length text) text (omega arith)

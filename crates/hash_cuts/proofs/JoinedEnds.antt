@@ -1,5 +1,6 @@
 -- Where the chunks of joined lists end, and those behind a chunk's end.
-use Rattle.hash_cuts.proofs.Common.{◌≡◌, ℕ, ◌+◌, List, [], ◌∷◌, ◌++◌, length, length-append, map, get_or, drop, take, refl, arith, ap, ap₂, sym, ◌∙◌, concat, append-nil, append_assoc, take-append_seam, Cutting, HasSizes, chunk_ends, chunks, ends_from}
+use Rattle.std.proofs.lemmas.Grind.{common_steps}
+use Rattle.hash_cuts.proofs.Common.{◌≡◌, ℕ, ◌+◌, List, [], ◌∷◌, ◌++◌, length, length-append, map, get_or, drop, take, refl, arith, ap, ap₂, sym, ◌∙◌, concat, take-append_seam, Cutting, HasSizes, chunk_ends, chunks, ends_from, nat_tests}
 use Rattle.std.proofs.lemmas.List.Folds.{concat-append}
 use Rattle.hash_cuts.proofs.InStep.{behind, chunks-joined}
 
@@ -14,9 +15,7 @@ ends-joined place (x ∷ xs) ys =
 pub ends-moved : (place more : ℕ) (xs : List (List ℕ)) → ends_from (place + more) xs ≡ map (λ end. end + more) (ends_from place xs)
 unfolding ends_from
 ends-moved place more [] = refl
-ends-moved place more (x ∷ xs) =
-    let end : place + more + length x ≡ place + length x + more = omega arith in
-    ap₂ (λ (e : ℕ) (t : List ℕ). e ∷ t) end (ap (λ n. ends_from n xs) end ∙ ends-moved (place + length x) more xs)
+ends-moved place more (x ∷ xs) = grind (arith, nat_tests, common_steps, ends-moved (place + length x) more xs)
 
 -- the chunks before an end, and those behind it
 record SplitAt (place : ℕ) (list : List (List ℕ)) (end : ℕ) (after : List ℕ) : Type 0 where

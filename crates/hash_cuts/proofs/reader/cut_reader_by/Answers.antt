@@ -1,15 +1,11 @@
-use Rattle.hash_cuts.proofs.Common.{None, Some, refl, ◌<◌, [], ap, subst, sym, arith, OnOk, IsAtEnd, take_all}
+use Rattle.std.proofs.lemmas.Grind.{common_steps}
+use Rattle.hash_cuts.proofs.Common.{None, Some, refl, ◌<◌, ap, subst, sym, arith, OnOk, IsAtEnd, take_all, nat_tests}
 use Rattle.hash_cuts.proofs.CutLemmas.{first_cut-is}
 use Rattle.hash_cuts.proofs.GivenLemmas.{moved-front, reads-all, reads-first, reads-none, reads-refused}
 use Rattle.hash_cuts.proofs.reader.cut_reader_by.Goals as goal
 
 pub loop-bytes-init : goal.loop-bytes-init
-loop-bytes-init g c = record {
-  cut = reads-none c.args.cuts.now (g.R.Read.remaining c.args.r.now) c.args.sink.now;
-  begun = (omega (arith, (first_cut-is c.args.cuts.now []).within), omega (arith, c.most-most.ensures.sizes.0, c.most-most.ensures.sizes.1, c.most-most.ensures.sizes.2));
-  kept = omega arith;
-  within = omega arith;
-}
+loop-bytes-init g c = grind (arith, nat_tests, common_steps, reads-none, first_cut-is)
 
 pub returns-in-Err-clause-fault : goal.returns-in-Err-clause-fault
 returns-in-Err-clause-fault g c =
@@ -55,18 +51,4 @@ loop-bytes-preserved g c =
     let ok = rw c.front-whole.ensures at c.in-Ok.ensures in
     let moved = moved-front _ c.to_front-kept.new.buffer.items c.in-Ok.given _ _ ok.within c.to_front-kept.ensures.count
     c.to_front-kept.ensures.kept in
-    let room = c.min-room.ensures in
-    record {
-      cut = rw moved (reads-first c.loop-bytes.invariant.cut read ok.gives);
-      begun = rw moved ok.rest;
-      kept = omega (
-        arith,
-        c.to_front-kept.ensures.count,
-        c.to_front-kept.ensures.len,
-        c.read_more-count.ensures.len,
-        c.read_more-count.ensures.within,
-        room,
-        c.loop-bytes.invariant.kept,
-      );
-      within = omega (arith, c.read_more-count.ensures.within, room, c.loop-bytes.invariant.within);
-    }
+    grind (arith, nat_tests, common_steps, reads-first)

@@ -1,4 +1,5 @@
-use Rattle.hash_cuts.proofs.Common.{◌≡◌, ◌<◌, ◌-◌, ◌⊎◌, ℕ, List, length, take, drop, inl, inr, ap, sym, ◌∙◌, arith, first_cut, drop-drop, length-drop, take_all}
+use Rattle.std.proofs.lemmas.Grind.{common_steps}
+use Rattle.hash_cuts.proofs.Common.{◌≡◌, ◌<◌, ◌-◌, ◌⊎◌, ℕ, List, length, take, drop, arith, first_cut, drop-drop, length-drop, take_all, nat_tests}
 use Rattle.hash_cuts.proofs.ChunkLemmas.{first_cut-le}
 use Rattle.hash_cuts.proofs.CutLemmas.{first_cut-is}
 use Rattle.hash_cuts.proofs.GivenLemmas.{gives-more, gives-refused}
@@ -20,11 +21,8 @@ loop-given-preserved g c =
     let rest = drop given bytes in
     let is : n ≡ first_cut cuts rest = rw (rest-is bytes given) at c.first_cut-n.ensures.cut in
     let some : 0 < length rest = omega (arith, length-drop given bytes, c.loop-given-test.true) in
-    let ends : (first_cut cuts rest < length rest) ⊎ (first_cut cuts rest ≡ cuts.most) = elim c.else-n-rest.either [
-      | inl whole ↦ inr (omega (arith, whole.1, is, c.most-most.ensures.value, (first_cut-is cuts rest).within))
-      | inr part ↦
-          inl (omega (arith, part, is, first_cut-le cuts sizes rest, ap length (rest-is bytes given)))
-    ] in
+    let ends : (first_cut cuts rest < length rest) ⊎ (first_cut cuts rest ≡ cuts.most) =
+    grind (arith, nat_tests, common_steps, first_cut-is, first_cut-le, rest-is) in
     record {
       gives = rw (← drop-drop n given bytes, is)
           (gives-more c.loop-given.invariant.gives sizes some ends (rw (rest-is bytes given, is) at c.in_ok-take.ensures.ok));
@@ -32,33 +30,7 @@ loop-given-preserved g c =
     }
 
 pub returns-clause-rest : goal.returns-clause-rest
-returns-clause-rest g c =
-    let cuts = c.args.cuts.now in
-    let sizes = c.most-most.ensures.sizes in
-    let bytes = c.args.bytes.now in
-    let given = c.loop-given.given in
-    let rest = drop given bytes in
-    let le = first_cut-le cuts sizes rest in
-    elim c.loop-given-test.branch [
-      | else-loop-given-test w ↦ (
-        omega (arith, le, length-drop given bytes, w.loop-given-test.false),
-        omega (arith, length-drop given bytes, w.loop-given-test.false, sizes.0, sizes.1, sizes.2),
-      )
-      | then-loop-given-test+then-n-rest+then-n-most w ↦
-          let is : w.first_cut-n.result ≡ first_cut cuts rest = rw (rest-is bytes given) at w.first_cut-n.ensures.cut in
-          let len = ap length (rest-is bytes given) in (
-            sym is ∙ w.if-n-rest.true ∙ len,
-            omega (arith, w.if-n-rest.true, len, w.if-n-most.true, c.most-most.ensures.value),
-          )
-    ]
+returns-clause-rest g c = grind (arith, nat_tests, common_steps, first_cut-le, length-drop, rest-is)
 
 pub returns-in_err-take-clause-some : goal.returns-in_err-take-clause-some
-returns-in_err-take-clause-some g c =
-    let bytes = c.args.bytes.now in
-    let given = c.loop-given.given in
-    let is : c.first_cut-n.result ≡ first_cut c.args.cuts.now (drop given bytes) = rw (rest-is bytes given) at c.first_cut-n.ensures.cut in
-    on_err _ c.from_residual.result (
-      drop given bytes,
-      omega (arith, length-drop given bytes, c.loop-given-test.true),
-      gives-refused c.loop-given.invariant.gives (rw (rest-is bytes given, is) at c.in_err-take.ensures.err),
-    )
+returns-in_err-take-clause-some g c = grind (arith, nat_tests, common_steps, rest-is, on_err, length-drop, gives-refused)

@@ -1,4 +1,5 @@
-use Rattle.hash_cuts.proofs.Common.{◌-◌, length, drop, inl, inr, refl, ap, ◌∙◌, arith, first_cut, length-drop, take_all}
+use Rattle.std.proofs.lemmas.Grind.{common_steps}
+use Rattle.hash_cuts.proofs.Common.{◌-◌, length, drop, refl, ap, ◌∙◌, arith, first_cut, length-drop, take_all, nat_tests}
 use Rattle.hash_cuts.proofs.EndLemmas.{all_ends, ends_written, one_end_more}
 use Rattle.hash_cuts.proofs.cuts.Cuts.ends.Goals as goal
 
@@ -16,21 +17,13 @@ loop-count-preserved c =
     c.if-place-text.true c.loop-count-test.true
 
 pub returns-else-place-text-clause-count : goal.returns-else-place-text-clause-count
-returns-else-place-text-clause-count c =
-    all_ends c.args.self.now c.args.text.now c.args.ends.now c.loop-count.ends c.loop-count.count c.loop-count.place c.loop-count.invariant
-    (inr (omega (arith, c.if-place-text.false)))
+returns-else-place-text-clause-count c = grind (arith, nat_tests, common_steps, all_ends)
 
 pub returns-else-place-text-clause-written : goal.returns-else-place-text-clause-written
-returns-else-place-text-clause-written c =
-    ends_written c.args.self.now c.args.text.now c.args.ends.now c.loop-count.ends c.loop-count.count c.loop-count.place c.loop-count.invariant
-    (inr (omega (arith, c.if-place-text.false)))
+returns-else-place-text-clause-written c = grind (arith, nat_tests, common_steps, ends_written)
 
 pub returns-after-loop-count-clause-count : goal.returns-after-loop-count-clause-count
-returns-after-loop-count-clause-count c =
-    all_ends c.args.self.now c.args.text.now c.args.ends.now c.loop-count.ends c.loop-count.count c.loop-count.place c.loop-count.invariant
-    (inl (omega (arith, c.loop-count-test.false, c.loop-count.invariant.len)))
+returns-after-loop-count-clause-count c = grind (arith, nat_tests, common_steps, all_ends)
 
 pub returns-after-loop-count-clause-written : goal.returns-after-loop-count-clause-written
-returns-after-loop-count-clause-written c =
-    ends_written c.args.self.now c.args.text.now c.args.ends.now c.loop-count.ends c.loop-count.count c.loop-count.place c.loop-count.invariant
-    (inl (omega (arith, c.loop-count-test.false, c.loop-count.invariant.len)))
+returns-after-loop-count-clause-written c = grind (arith, nat_tests, common_steps, ends_written)

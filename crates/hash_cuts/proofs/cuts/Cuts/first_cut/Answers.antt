@@ -1,4 +1,5 @@
-use Rattle.hash_cuts.proofs.Common.{◌≡◌, ◌≤◌, ◌-◌, drop, ap, arith, refl, Cutting, cutting, length-take}
+use Rattle.std.proofs.lemmas.Grind.{common_steps}
+use Rattle.hash_cuts.proofs.Common.{◌≡◌, ◌≤◌, ◌-◌, drop, ap, arith, refl, Cutting, cutting, length-take, nat_tests}
 use Rattle.hash_cuts.proofs.CutLemmas.{bytes-there, first_cut-from, rolled-on, rolled-on-four, rolled-to}
 use Rattle.hash_cuts.proofs.cuts.Cuts.first_cut.Goals as goal
 
@@ -6,11 +7,7 @@ pub returns-then-end-self-clause-cut : goal.returns-then-end-self-clause-cut
 returns-then-end-self-clause-cut c =
     let least_is = ap (λ (cuts : Cutting). cuts.least) c.self.view_is in
     let most_is = ap (λ (cuts : Cutting). cuts.most) c.self.view_is in
-    first_cut-from c.args.self.now c.args.text.now c.min-end.result (record {
-      within = omega (arith, most_is, c.min-end.ensures);
-      before = λ m from below. absurd (omega (arith, least_is, from, below, c.if-end-self.true));
-      cut = λ below. absurd (omega (arith, most_is, c.min-end.ensures, below));
-    })
+    first_cut-from c.args.self.now c.args.text.now c.min-end.result (grind (arith, nat_tests, common_steps))
 
 pub fours-preserved : goal.fours-preserved
 fours-preserved c =
@@ -64,8 +61,4 @@ returns-clause-cut c =
     let most_is = ap (λ (cuts : Cutting). cuts.most) c.self.view_is in
     let ended : c.loop-place.place ≡ c.min-end.result =
     omega (arith, c.loop-place.auto.place-end c.fours.invariant.within, c.loop-place-test.false) in
-    first_cut-from c.args.self.now c.args.text.now c.min-end.result (record {
-      within = omega (arith, most_is, c.min-end.ensures);
-      before = λ m from below. c.loop-place.invariant.none m from (omega (arith, ended, below));
-      cut = λ below. absurd (omega (arith, most_is, c.min-end.ensures, below));
-    })
+    first_cut-from c.args.self.now c.args.text.now c.min-end.result (grind (arith, nat_tests, common_steps))
