@@ -1,4 +1,5 @@
 -- Names with escapes.
+use Rattle.std.proofs.lemmas.Grind.{common_steps}
 use Rattle.hash_lines.proofs.Common.{◌≡◌, ◌≢◌, ℕ, ◌+◌, ◌<◌, List, [], ◌∷◌, ◌++◌, length, take, get_or, ap, sym, ◌∙◌, append_assoc, append-nil, arith, escape, escaped_byte, nat_tests, take_more}
 
 pub escape-append : (name more : List ℕ) → escape (name ++ more) ≡ escape name ++ escape more
@@ -8,9 +9,7 @@ escape-append (byte ∷ name) more = grind (arith, append_assoc (escaped_byte by
 -- one byte more
 pub escape-take : (name : List ℕ) (i : ℕ) → i < length name
     → escape (take (i + 1) name) ≡ escape (take i name) ++ escaped_byte (get_or name i 0)
-escape-take name i within =
-    ap escape (take_more name i 0 within) ∙ escape-append (take i name) (get_or name i 0 ∷ [])
-    ∙ ap (λ t. escape (take i name) ++ t) (append-nil (escaped_byte (get_or name i 0)))
+escape-take name i within = grind (arith, nat_tests, common_steps, take_more, escape-append, append-nil)
 
 -- texts that begin alike begin with the same byte, and go on alike
 pub first_same : (byte other : ℕ) (xs ys : List ℕ) → escaped_byte byte ++ xs ≡ escaped_byte other ++ ys → byte ≡ other

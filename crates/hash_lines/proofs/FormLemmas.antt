@@ -1,5 +1,6 @@
 -- Lines in other programs' forms.
-use Rattle.hash_lines.proofs.Common.{◌≡◌, ◌≢◌, inl, inr, ℕ, Bool, true, false, All, List, [], ◌∷◌, ◌++◌, Option, Some, None, MatchOption, Vec, refl, sym, ap, ◌∙◌, subst, Global, Finds, Tells, TellsNothing, Sum, is_sum, EndsInDigits, FindsForm, FindsOf, HasCrc, HasTag, HasWord, IsBlankForm, IsForm, IsSfvForm, IsTaggedForm, Lacks, TellsIn, TellsNoneIn, TellsSo, is_ascii_whitespace, All-head, All-tail, HashLine, Bor}
+use Rattle.std.proofs.lemmas.Grind.{common_steps}
+use Rattle.hash_lines.proofs.Common.{◌≡◌, ◌≢◌, inl, inr, ℕ, Bool, true, false, All, List, [], ◌∷◌, ◌++◌, Option, Some, None, MatchOption, Vec, refl, sym, ap, ◌∙◌, subst, Global, Finds, Tells, TellsNothing, Sum, is_sum, EndsInDigits, FindsForm, FindsOf, HasCrc, HasTag, HasWord, IsBlankForm, IsForm, IsSfvForm, IsTaggedForm, Lacks, TellsIn, TellsNoneIn, TellsSo, is_ascii_whitespace, All-head, All-tail, HashLine, Bor, arith, rules, nat_tests}
 use Rattle.std.specs.Str.{IsTrimAsciiEnd, IsTrimAsciiStart}
 use Rattle.std.proofs.lemmas.Str.Ascii.{trim_ascii_end_is, trim_ascii_start_is}
 use Rattle.hash_lines.proofs.TellsLemmas.{found_as}
@@ -84,9 +85,7 @@ tag_one line tag shown digits other name number has also =
 
 -- a line without a blank has no word in front of one
 pub no_word : (line : List ℕ) → All (λ b. is_ascii_whitespace b ≡ false) line → (word behind : List ℕ) → ¬ (HasWord line word behind)
-no_word line all word behind has =
-    all_not (λ b. is_ascii_whitespace b ≡ false) has.blank (λ no. let clash : true ≡ false = sym has.is_blank ∙ no in cc) word behind
-    (subst (λ t. All (λ b. is_ascii_whitespace b ≡ false) t) (sym has.line_is) all)
+no_word line all word behind has = grind (arith, nat_tests, common_steps, all_not)
 
 -- a line has one first word
 pub word_one : (line word behind other more : List ℕ) → HasWord line word behind → HasWord line other more
@@ -98,9 +97,7 @@ word_one line word behind other more has also =
 
 digits_one : (line shown digits other number : List ℕ) → EndsInDigits line shown digits → EndsInDigits line other number
     → (shown ≡ other) × (digits ≡ number)
-digits_one line shown digits other number ends also =
-    let (fronts, same) = same_ends ends.front digits also.front number (ends.line_is ∙ sym also.line_is) (ends.eight ∙ sym also.eight) in
-    (end_one ends.front shown other ends.shown_is (subst (λ t. IsTrimAsciiEnd t other) (sym fronts) also.shown_is), same)
+digits_one line shown digits other number ends also = search (rules, same_ends, end_one)
 
 -- a line in a form is one line of ours
 pub tagged_plain_one : (line plain other : List ℕ) → IsTaggedForm line plain → IsTaggedForm line other → other ≡ plain

@@ -1,5 +1,6 @@
 -- The parts of a line.
-use Rattle.hash_lines.proofs.Common.{◌≡◌, ◌≢◌, ◌⊎◌, inl, inr, ℕ, suc, true, false, All, List, [], ◌∷◌, refl, ◌++◌, Option, Some, None, MatchOption, length, take, drop, codes, sym, ap, ◌∙◌, subst, append_assoc, arith, bytes_eq, ShowsNumber, ShowsTagged, ShowsUntagged, hex_value, append_cancel_left, length-append, All-head, All-tail, Bor, bytes_decides}
+use Rattle.std.proofs.lemmas.Grind.{common_steps}
+use Rattle.hash_lines.proofs.Common.{◌≡◌, ◌≢◌, ◌⊎◌, inl, inr, ℕ, suc, true, false, All, List, [], ◌∷◌, refl, ◌++◌, Option, Some, None, MatchOption, length, take, drop, codes, sym, ap, ◌∙◌, subst, append_assoc, arith, bytes_eq, ShowsNumber, ShowsTagged, ShowsUntagged, hex_value, append_cancel_left, length-append, All-head, All-tail, Bor, bytes_decides, rules, nat_tests}
 use Rattle.std.proofs.Math.Seq.{take-append_seam, drop-append_seam}
 
 -- two texts with the first byte behind them of which P does not hold are cut at the same place
@@ -52,9 +53,7 @@ joined_three xs ys zs front rest first second = sym (append_assoc xs ys zs) ∙ 
 -- the middle of three texts, where the last two have their lengths
 pub middle_is : (xs ys zs us vs ws rest : List ℕ) → xs ++ (ys ++ zs) ≡ rest → us ++ (vs ++ ws) ≡ rest → length ys ≡ length vs
     → length zs ≡ length ws → ys ≡ vs
-middle_is xs ys zs us vs ws rest one other middles ends =
-    let fronts = same_ends (xs ++ ys) zs (us ++ vs) ws (append_assoc xs ys zs ∙ one ∙ sym (append_assoc us vs ws ∙ other)) ends in
-    (same_ends xs ys us vs fronts.0 middles).1
+middle_is xs ys zs us vs ws rest one other middles ends = grind (arith, nat_tests, common_steps, same_ends, append_assoc)
 
 -- the last of three texts
 pub last_is : (xs ys zs us vs ws rest : List ℕ) → xs ++ (ys ++ zs) ≡ rest → us ++ (vs ++ ws) ≡ rest → length zs ≡ length ws → zs ≡ ws
@@ -100,10 +99,7 @@ no_spaces count first rest body begins whole none shown number shows =
 -- no untagged line, where the first bytes are no digits
 pub no_first_digits : (count : ℕ) (first rest body : List ℕ) → first ++ rest ≡ body → length first ≡ count
     → ((number : ℕ) → ¬ (ShowsNumber count number first)) → (shown : List ℕ) (number : ℕ) → ¬ (ShowsUntagged count shown number body)
-no_first_digits count first rest body begins whole none shown number shows =
-    let (digits, more, long, tell, is, behind) = front_digits count number shown body shows in
-    let same = (same_begins digits more first rest (is ∙ sym begins) (long ∙ sym whole)).0 in
-    none number (rw (← same) (long, tell))
+no_first_digits count first rest body begins whole none shown number shows = search (rules, front_digits, same_begins)
 
 -- the name that a tagged line shows
 pub tagged_shown : (tag : List ℕ) (count number other : ℕ) (shown more body : List ℕ) → ShowsTagged tag count shown number body
@@ -116,8 +112,4 @@ tagged_shown tag count number other shown more body (digits, shows, is) (others,
 -- the name that an untagged line shows
 pub untagged_shown : (count number other : ℕ) (shown more body : List ℕ) → ShowsUntagged count shown number body
     → ShowsUntagged count more other body → shown ≡ more
-untagged_shown count number other shown more body one two =
-    let (digits, us, long, tell, is, behind) = front_digits count number shown body one in
-    let (others, vs, as_long, too, also, later) = front_digits count other more body two in
-    let same = (same_begins digits us others vs (is ∙ sym also) (long ∙ sym as_long)).1 in
-    grind (arith, same, behind, later)
+untagged_shown count number other shown more body one two = grind (arith, nat_tests, common_steps, front_digits, same_begins)

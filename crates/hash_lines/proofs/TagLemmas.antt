@@ -1,5 +1,6 @@
 -- Kinds whose names are tags.
-use Rattle.hash_lines.proofs.Common.{◌≡◌, ◌⊎◌, inl, inr, ℕ, zero, suc, ◌||◌, not, Bool, true, false, List, [], ◌∷◌, refl, ap, sym, ◌∙◌, arith, Contains, map, subst, bytes_eq, AreTags, IsTag, are_tags, is_tag, Sum, nat_tests, list_any, name_in}
+use Rattle.std.proofs.lemmas.Grind.{common_steps}
+use Rattle.hash_lines.proofs.Common.{◌≡◌, ◌⊎◌, inl, inr, ℕ, zero, suc, ◌||◌, not, Bool, true, List, [], ◌∷◌, refl, ap, sym, ◌∙◌, arith, Contains, map, bytes_eq, AreTags, IsTag, are_tags, is_tag, Sum, nat_tests, list_any, name_in}
 use Rattle.std.proofs.lemmas.Bool.{and_parts}
 use Rattle.std.proofs.lemmas.Slice.Eq.{bytes_eq-Decides}
 use Rattle.std.proofs.lemmas.List.Folds.{list_any_at}
@@ -30,24 +31,13 @@ names_of kinds = map name_in kinds
 
 each_tag : (kinds : List Sum) → are_tags (names_of kinds) ≡ true → (kind : Sum) → Contains kinds kind → IsTag (name_in kind)
 each_tag [] seen kind there = absurd (none_there kind there)
-each_tag (first ∷ more) seen kind there =
-    let parts = and_parts (is_tag (name_in first)) _ seen in
-    let others = and_parts (not (list_any (bytes_eq (name_in first)) (names_of more))) (are_tags (names_of more)) parts.1 in
-    elim (first_or_later first more kind there) [
-      | inl is ↦ subst (λ (k : Sum). IsTag (name_in k)) is (tag_seen (name_in first) parts.0)
-      | inr later ↦ each_tag more others.1 kind later
-    ]
+each_tag (first ∷ more) seen kind there = grind (arith, nat_tests, common_steps, and_parts, first_or_later, tag_seen)
 
 -- the name of the first kind is no other's
 not_later : (first : Sum) (more : List Sum) (kind : Sum)
     → not (list_any (bytes_eq (name_in first)) (names_of more)) ≡ true → Contains more kind
     → name_in first ≡ name_in kind → ⊥
-not_later first more kind none later same =
-    let seen : list_any (bytes_eq (name_in first)) (names_of more) ≡ true =
-    any_mapped (bytes_eq (name_in first)) name_in more
-    ∙ any_of (λ (other : Sum). bytes_eq (name_in first) (name_in other)) more kind later
-    ((bytes_eq-Decides (name_in first) (name_in kind)).1 same) in
-    let clash : false ≡ true = sym (ap not seen) ∙ none in cc
+not_later first more kind none later same = grind (arith, nat_tests, common_steps, any_mapped, any_of, bytes_eq-Decides)
 
 names_apart : (kinds : List Sum) → are_tags (names_of kinds) ≡ true → (kind other : Sum) → Contains kinds kind → Contains kinds other
     → name_in kind ≡ name_in other → kind ≡ other

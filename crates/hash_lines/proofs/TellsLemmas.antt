@@ -1,5 +1,6 @@
 -- What a line tells, or does not.
-use Rattle.hash_lines.proofs.Common.{◌≡◌, inl, inr, ℕ, ◌<◌, ◌^◌, ◌&&◌, ◌++◌, refl, Bool, true, false, List, Option, Some, None, subst, Finds, FindsShown, IsShown, MayBeTold, body, digits_of, line_of, mark, name_shown, needs_escape, hex, Sum, HashLine, name_in, width_in}
+use Rattle.std.proofs.lemmas.Grind.{common_steps}
+use Rattle.hash_lines.proofs.Common.{◌≡◌, inl, inr, ℕ, ◌<◌, ◌^◌, ◌&&◌, ◌++◌, refl, Bool, true, false, List, Option, Some, None, Finds, FindsShown, IsShown, MayBeTold, body, digits_of, line_of, mark, name_shown, needs_escape, hex, Sum, HashLine, name_in, width_in, arith, rules, nat_tests}
 use Rattle.hash_lines.specs.declared.line.Form.{Form}
 use Rattle.hash_lines.specs.declared.line.Form.TheVariants as form
 use Rattle.streams.proofs.HexLemmas.{hex_value-hex, length-hex}
@@ -18,9 +19,7 @@ pub found_by : (kind : Sum) (escapes : Bool) (shows : Sum → List ℕ → ℕ �
     → ((xs ys : List ℕ) (a b : ℕ) → shows kind xs a line → shows kind ys b line → xs ≡ ys)
     → (shown : List ℕ) (number : ℕ) → shows kind shown number line → (found : Option HashLine) → FindsShown kind number escapes shown found
     → Finds (λ other name count text. (other ≡ kind) × ((s : List ℕ) × IsShown escapes name s × shows other s count text)) line found
-found_by kind escapes shows line one shown number here None none =
-    λ other name count (same, (s, is, tells)).
-    none name (subst (IsShown escapes name) (one s shown count number (subst (λ k. shows k s count line) same tells) here) is)
+found_by kind escapes shows line one shown number here None none = grind (arith, nat_tests, common_steps)
 found_by kind escapes shows line one shown number here (Some e) (is_kind, is_number, is) =
     (is_kind, (shown, is, rw (is_kind, is_number) here))
 
@@ -29,9 +28,7 @@ body_shown : (kinds : List Sum) (default kind : Sum) (form : Form) → MayBeTold
     → (escapes : Bool) (name : List ℕ) (number : ℕ) → number < 16 ^ digits_of (width_in kind)
     → ShowsBody kinds default escapes kind name number
     (body form (name_in kind) (name_shown escapes name) (hex (digits_of (width_in kind)) number))
-body_shown kinds default kind form.Tagged may escapes name number small =
-    let digits = hex (digits_of (width_in kind)) number in
-    inl (may, (digits, (length-hex (digits_of (width_in kind)) number, hex_value-hex (digits_of (width_in kind)) number small), refl))
+body_shown kinds default kind form.Tagged may escapes name number small = search (rules, length-hex, hex_value-hex)
 body_shown kinds default kind form.Untagged may escapes name number small =
     let digits = hex (digits_of (width_in kind)) number in
     inr (may, (digits, (length-hex (digits_of (width_in kind)) number, hex_value-hex (digits_of (width_in kind)) number small), inl refl))

@@ -1,4 +1,6 @@
-use Rattle.hash_lines.proofs.Lemmas.{codes, sym, ap, ◌∙◌, ◌++◌, bytes_decides, joined_three, middle_is, told_apart}
+use Rattle.std.proofs.lemmas.Grind.{common_steps}
+use Rattle.hash_lines.proofs.Common.{nat_tests}
+use Rattle.hash_lines.proofs.Lemmas.{codes, sym, ◌∙◌, bytes_decides, joined_three, middle_is, told_apart, arith}
 use Rattle.hash_lines.proofs.parse.around_mark.Goals as goal
 
 pub returns-then-eq : goal.returns-then-eq
@@ -6,11 +8,8 @@ returns-then-eq c =
     let shown = c.in_ok-shown.shown.now in
     let mark = c.in_ok-shown.mark.now in
     let digits = c.in_ok-front.digits.now in
-    let is = (bytes_decides mark c.as_slice.result.now).0 (sym c.if-eq.ensures) ∙ c.as_slice.ensures in (
-      c.in_ok-front.ensures.1,
-      ap (λ t. shown ++ (t ++ digits)) (sym is)
-          ∙ joined_three shown mark digits c.in_ok-front.front.now c.args.rest.now c.in_ok-shown.ensures.0 c.in_ok-front.ensures.0,
-    )
+    let is = (bytes_decides mark c.as_slice.result.now).0 (sym c.if-eq.ensures) ∙ c.as_slice.ensures in
+    grind (arith, nat_tests, common_steps, joined_three)
 
 pub returns-else-eq : goal.returns-else-eq
 returns-else-eq c other more count is =

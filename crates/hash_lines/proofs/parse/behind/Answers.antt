@@ -1,7 +1,7 @@
-use Rattle.hash_lines.proofs.Lemmas.{◌∙◌, front_is, told_apart}
+use Rattle.std.proofs.lemmas.Grind.{common_steps}
+use Rattle.hash_lines.proofs.Common.{nat_tests}
+use Rattle.hash_lines.proofs.Lemmas.{front_is, told_apart, arith}
 use Rattle.hash_lines.proofs.parse.behind.Goals as goal
 
 pub returns-else-eq : goal.returns-else-eq
-returns-else-eq c rest is =
-    told_apart c.split_at.result.0.now c.args.front.now c.if-eq.ensures
-    (c.split_at.ensures.front ∙ front_is c.args.front.now rest c.args.bytes.now is)
+returns-else-eq c rest is = grind (arith, nat_tests, common_steps, told_apart, front_is)

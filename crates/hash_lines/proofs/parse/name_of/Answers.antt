@@ -1,7 +1,7 @@
-use Rattle.hash_lines.proofs.Lemmas.{length, sym, ◌∙◌, eqb-true, none_shown}
+use Rattle.std.proofs.lemmas.Grind.{common_steps}
+use Rattle.hash_lines.proofs.Common.{nat_tests}
+use Rattle.hash_lines.proofs.Lemmas.{eqb-true, none_shown, arith}
 use Rattle.hash_lines.proofs.parse.name_of.Goals as goal
 
 pub returns-then-is_empty : goal.returns-then-is_empty
-returns-then-is_empty c = λ name.
-    let shown = c.args.shown.now in
-    none_shown c.args.escapes name shown (eqb-true (length shown) 0 (sym c.is_empty.ensures ∙ c.if-is_empty.true))
+returns-then-is_empty c = grind (arith, nat_tests, common_steps, none_shown, eqb-true)

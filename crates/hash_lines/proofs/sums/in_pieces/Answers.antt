@@ -1,4 +1,5 @@
-use Rattle.hash_lines.proofs.Common.{◌≡◌, ◌+◌, ◌-◌, ◌*◌, ◌/◌, ◌%◌, ◌≤◌, ◌∷◌, [], ◌++◌, inl, inr, length, length-drop, length-take-le, take, drop, fold, ap, sym, ◌∙◌, arith, take-add, div-add-mod', cases_lt, fold-append, cut}
+use Rattle.std.proofs.lemmas.Grind.{common_steps}
+use Rattle.hash_lines.proofs.Common.{◌≡◌, ◌+◌, ◌*◌, ◌/◌, ◌%◌, ◌≤◌, ◌∷◌, [], ◌++◌, inl, inr, length, length-drop, length-take-le, take, drop, ap, ◌∙◌, arith, take-add, div-add-mod', cases_lt, fold-append, cut, nat_tests}
 use Rattle.std.proofs.Math.Nat.{add-mod_right}
 use Rattle.hashers.proofs.ReadingLemmas.{cut_more}
 use Rattle.hash_lines.proofs.sums.in_pieces.Goals as goal
@@ -21,16 +22,4 @@ loop-done-preserved g c =
     ap (cut 4096) (take-add done count text)
     ∙ cut_more 4096 (done / 4096) (take done text) piece (omega arith) pieces (omega (arith, len, c.min-count.ensures, more))
     (omega (arith, len, c.min-count.ensures)) in
-    let same : done + count - done ≡ count = omega arith in
-    record {
-      fed = c.feed.ensures.state ∙ ap (λ n. after (g.H.Piecewise.state c.loop-done.hasher) (take n (drop done text))) same
-          ∙ ap (λ s. after s piece) before.fed
-          ∙ sym (ap (fold after g.H.Piecewise.fresh) cuts ∙ fold-append after g.H.Piecewise.fresh (cut 4096 (take done text)) (piece ∷ []));
-      within = omega (arith, c.min-count.ensures, before.within, more);
-      whole = elim (cases_lt (length text) (done + 4096)) [
-        | inl short ↦ inr (omega (arith, c.min-count.ensures, short, before.within))
-        | inr long ↦
-            let full : done + count ≡ done + 4096 = omega (arith, c.min-count.ensures, long) in
-            inl (ap (λ n. n % 4096) full ∙ add-mod_right done 4096 ∙ whole)
-      ];
-    }
+    grind (arith, nat_tests, common_steps, fold-append, cases_lt, add-mod_right)
