@@ -5,6 +5,7 @@ pub use Rattle.std.proofs.Common.{Bool, Equal, Err, Greater, IsPermutation, IsSo
 pub use Rattle.std.proofs.Math.Seq.{map-set_same, take-append_seam, take-nil}
 pub use Rattle.std.proofs.lemmas.Bool.Decides.{nat_tests}
 pub use Rattle.std.proofs.lemmas.List.{drop-map, get_or-map, length-map, length-replicate, map-append, map-set, nil_from_length, take-map}
-pub use Rattle.std.specs.FinMap.{contains_key, empty, entries, entries-from_sorted, entries-insert, entries_sorted, from_entries, from_sorted, get, get-entries, get-from_entries, get-from_sorted, get-insert, get-remove, insert, len, len-empty, len-entries, len-insert, nat_cmp-IsAntisymmetric, same_map, slice_cmp-IsAntisymmetric}
+pub use Rattle.std.specs.FinMap.{contains_key, empty, entries, entries-from_sorted, entries-insert, entries_sorted, from_entries, from_sorted, get, get-entries, get-from_entries, get-from_sorted, get-insert, get-remove, insert, len, len-empty, len-entries, len-insert, nat_cmp-IsAntisymmetric, same_map, slice_cmp-IsAntisymmetric, remove}
 pub use Rattle.std.specs.Global.{Vec}
 pub use Rattle.std.specs.List.{AppendsResults, FoldsTo, position, position_or_len}
+pub use Rattle.std.proofs.lemmas.Grind.{common_steps, get_or-set_at}

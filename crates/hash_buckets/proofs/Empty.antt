@@ -1,14 +1,12 @@
 -- The lists of a new table.
-use Rattle.hash_buckets.proofs.Common.{◌≡◌, ◌≤◌, ℕ, zero, suc, List, [], ◌∷◌, ◌++◌, sym, ap, subst, ◌∙◌, refl, length, replicate, take, get_or, take-nil, length-replicate, Vec, empty, AppendsResults, FoldsTo, pairs, pairs_of_each, value_at, table_of, HasEachKeyOnce, IsPlaced, AreBuckets}
+use Rattle.hash_buckets.proofs.Common.{◌≡◌, ◌≤◌, ℕ, zero, suc, List, [], ◌∷◌, sym, ap, subst, ◌∙◌, refl, length, replicate, take, get_or, take-nil, length-replicate, Vec, empty, AppendsResults, FoldsTo, pairs_of_each, table_of, IsPlaced, AreBuckets, arith, rules, nat_tests, common_steps}
 use Rattle.hash_buckets.proofs.Pairs.{empty_table}
 
 -- none of the lists that the calls made has a pair
 all_empty : {F : Type 0} (made : F → Vec (Vec ℕ × ℕ) → F → Type 0) → ((f : F) (x : Vec (Vec ℕ × ℕ)) (f' : F) → made f x f' → x.items ≡ [])
     → (lists : List (Vec (Vec ℕ × ℕ))) (f f' : F) → FoldsTo made f lists f' → pairs_of_each lists ≡ replicate (length lists) []
 all_empty made each [] f f' steps = refl
-all_empty made each (x ∷ lists) f f' steps =
-    ap (λ items. pairs items ∷ pairs_of_each lists) (each _ _ _ steps.1)
-    ∙ ap (λ rest. [] ∷ rest) (all_empty made each lists _ _ steps.2)
+all_empty made each (x ∷ lists) f f' steps = grind (arith, nat_tests, common_steps, all_empty made each lists _ _ steps.2)
 
 none_at : (n i : ℕ) → get_or (replicate {A = List (List ℕ × ℕ)} n []) i [] ≡ []
 none_at zero i = refl
@@ -16,21 +14,13 @@ none_at (suc n) zero = refl
 none_at (suc n) (suc i) = none_at n i
 
 placed : (number : List ℕ → ℕ) (n : ℕ) → 1 ≤ n → IsPlaced number n (replicate n [])
-placed number n some = record {
-  some = some;
-  count = length-replicate n [];
-  placed = λ i key apart. ap (value_at key) (none_at n i);
-  once = λ i. subst HasEachKeyOnce (sym (none_at n i)) tt;
-}
+placed number n some = search (rules, length-replicate, none_at)
 
 module _ {F : Type 0} (made : F → Vec (Vec ℕ × ℕ) → F → Type 0)
     (each : (f : F) (x : Vec (Vec ℕ × ℕ)) (f' : F) → made f x f' → x.items ≡ []) (n : ℕ) (old new : List (Vec (Vec ℕ × ℕ))) (f : F)
     (none : old ≡ []) (results : AppendsResults made (take n old) new f) (count : length new ≡ n) where
   are : pairs_of_each new ≡ replicate n []
-  are =
-      let of_none : take n old ≡ [] = ap (take n) none ∙ take-nil n in
-      let is : new ≡ results.0 = results.2 ∙ ap (λ front. front ++ results.0) of_none in
-      ap pairs_of_each is ∙ all_empty made each results.0 _ _ results.3 ∙ ap (λ m. replicate m []) (ap length (sym is) ∙ count)
+  are = search (rules, take-nil, all_empty)
 
   -- they are the lists of a table
   pub new_placed : (number : List ℕ → ℕ) → 1 ≤ n → AreBuckets number n new

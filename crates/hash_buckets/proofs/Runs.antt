@@ -1,5 +1,5 @@
 -- Commands one after another.
-use Rattle.hash_buckets.proofs.Common.{take-append_seam, ℕ, ◌≡◌, length, take, sym, ◌∙◌, List, [], ◌∷◌, ◌++◌, fold, refl, ap, subst, Some, slice_get, IsSomeAnd, Table, content_after, reply_to, replies_to, NeedsMemory, StopsAt}
+use Rattle.hash_buckets.proofs.Common.{take-append_seam, ℕ, ◌≡◌, length, List, [], ◌∷◌, ◌++◌, fold, refl, ap, Some, slice_get, Table, content_after, reply_to, replies_to, NeedsMemory, StopsAt, arith, nat_tests, common_steps}
 use Rattle.hash_buckets.specs.declared.Command.{Command}
 
 -- one command more
@@ -17,12 +17,5 @@ next (first ∷ done) command left = next done command left
 -- the commands that were done are a beginning of all, and the one behind them found no memory
 pub stops_at : (start now : Table) (all done : List Command) (command : Command) (left : List Command) → all ≡ done ++ command ∷ left
     → (table : Table) → table ≡ fold content_after start done → now ≡ table → NeedsMemory table command → (n : ℕ) × StopsAt n start all now
-stops_at start now all done command left split table so_far same wanted = (
-  length done,
-  record {
-    content = same ∙ so_far ∙ ap (fold content_after start) (sym (take-append_seam done (command ∷ left))
-        ∙ ap (take (length done)) (sym split));
-    wanted = λ some. subst (λ commands. IsSomeAnd (slice_get commands (length done)) (NeedsMemory now)) (sym split)
-        (subst (λ o. IsSomeAnd o (NeedsMemory now)) (sym (next done command left)) (subst (λ t. NeedsMemory t command) (sym same) wanted));
-  },
-)
+stops_at start now all done command left split table so_far same wanted =
+    grind (arith, nat_tests, common_steps, take-append_seam done (command ∷ left), next done command left)
