@@ -1,5 +1,5 @@
 -- A ring with a node more, and with one less.
-use Rattle.hash_ring.proofs.Common.{ℕ, suc, ◌≡◌, ◌≢◌, ◌+◌, ◌-◌, ◌<◌, ◌≤◌, Bool, true, not, cond, ltb, ◌==◌, List, [], ◌++◌, map, length, get_or, take, drop, arith, sym, ap, ◌∙◌, subst, refl, ⊎_elim, inl, inr, filter, cases_eq, nat_tests, common_steps, elements, moves, append-nil, drop_all, map-append, take-map, drop-map, get_or-map, length-map, get_or-insert_at, All-contains, Contains-append_cases, All-append, All-drop, All-filter, All-map, All-take, filter_passes, AllPairs-filter, Contains-permutation, IsPermutation-append_right, IsPermutation-filter_both, IsPermutation-trans, Node, Point, IsPointOf, ArePoints, IsBefore, IsGapAt, IsRing, IsPointOfItsNode, closed_up, left_without, node_at, opened_up, pair_of, pairs, points_of, AllPairs, Contains, insert, remove, IsPermutation}
+use Rattle.hash_ring.proofs.Common.{ℕ, ◌≡◌, ◌≢◌, ◌+◌, ◌-◌, ◌<◌, ◌≤◌, Bool, true, not, cond, ltb, ◌==◌, List, [], ◌++◌, map, length, get_or, take, drop, arith, sym, ap, ◌∙◌, subst, refl, ⊎_elim, inl, inr, filter, cases_eq, nat_tests, common_steps, elements, moves, append-nil, drop_all, map-append, take-map, drop-map, get_or-map, length-map, get_or-insert_at, All-contains, Contains-append_cases, All-append, All-drop, All-filter, All-map, All-take, filter_passes, AllPairs-filter, Contains-permutation, IsPermutation-append_right, IsPermutation-filter_both, IsPermutation-trans, Node, Point, IsPointOf, ArePoints, IsBefore, IsGapAt, IsRing, IsPointOfItsNode, closed_up, left_without, node_at, opened_up, pair_of, pairs, points_of, AllPairs, Contains, insert, remove, IsPermutation, rules}
 use Rattle.hash_ring.proofs.PointLemmas.{ArePoints-permutation, mapped_in_order, one_node_more}
 use Rattle.hash_ring.proofs.Names.{Pairs, inserted_sorted, removed_sorted}
 
@@ -83,13 +83,7 @@ module _ (hash : List ℕ → ℕ) (es : Pairs) (gone : ℕ) (below : gone < len
   }
 
   pub ring_without : (points : List Point) → IsRing hash es points → IsRing hash rest (left_without gone points)
-  ring_without points ring = record {
-    named = removed_sorted es ring.named gone below;
-    weighed = All-append (λ node. 1 ≤ node.1) (take gone es) (drop (suc gone) es) (All-take (λ node. 1 ≤ node.1) gone es ring.weighed)
-        (All-drop (λ node. 1 ≤ node.1) (suc gone) es ring.weighed);
-    just = still_just points ring.just;
-    ordered = still_before gone (filter stays points) (AllPairs-filter IsBefore stays points ring.ordered);
-  }
+  ring_without points ring = search (rules, removed_sorted, All-append, All-take, All-drop, still_just, still_before, AllPairs-filter)
 
 -- ---- the points of a ring with a node more
 module _ (hash : List ℕ → ℕ) (es : Pairs) (come : ℕ) (node : List ℕ × ℕ) (within : come ≤ length es) where

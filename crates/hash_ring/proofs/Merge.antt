@@ -1,5 +1,5 @@
 -- Two lists of points in order become one, from the last point to the first.
-use Rattle.hash_ring.proofs.Common.{ℕ, suc, ◌≡◌, ◌<◌, ◌≤◌, ◌+◌, ◌-◌, ◌++◌, List, [], ◌∷◌, length, get_or, set, take, drop, map, arith, sym, ◌∙◌, subst, ⊎_elim, cases_lt, drop_more, drop-set, get_or_default, get_or-take, take-append-drop, take-set-le, take-take, common_steps, All-append, All-cons, AllPairs-cons, IsPermutation-append_comm, IsPermutation-append_left, IsPermutation-append_right, IsPermutation-cons, IsPermutation-trans, Point, IsBefore, opened_up, All, AllPairs, IsPermutation, append_assoc, length-take-le}
+use Rattle.hash_ring.proofs.Common.{ℕ, suc, ◌≡◌, ◌<◌, ◌≤◌, ◌+◌, ◌-◌, ◌++◌, List, [], ◌∷◌, length, get_or, set, take, drop, map, arith, sym, ◌∙◌, subst, ⊎_elim, cases_lt, drop_more, drop-set, get_or_default, get_or-take, take-append-drop, take-set-le, take-take, common_steps, All-append, All-cons, AllPairs-cons, IsPermutation-append_comm, IsPermutation-append_left, IsPermutation-append_right, IsPermutation-cons, IsPermutation-trans, Point, IsBefore, opened_up, All, AllPairs, IsPermutation, append_assoc, length-take-le, rules, nat_tests}
 use Rattle.hash_ring.proofs.PointLemmas.{before_both}
 
 AllPairs-append : (xs ys : List Point) → AllPairs IsBefore xs → AllPairs IsBefore ys → All (λ x. All (IsBefore x) ys) xs
@@ -21,14 +21,7 @@ pub record IsMerged (xs ys done : List Point) (left right : ℕ) : Type 0 where
   pub right_before : (k : ℕ) (d : Point) → k < right → All (IsBefore (get_or ys k d)) done
 
 turned : (xs ys done : List Point) (left right : ℕ) → IsMerged xs ys done left right → IsMerged ys xs done right left
-turned xs ys done left right so_far = record {
-  left_within = so_far.right_within;
-  right_within = so_far.left_within;
-  all = IsPermutation-trans _ _ _ (IsPermutation-append_comm (drop right ys) (drop left xs)) so_far.all;
-  ordered = so_far.ordered;
-  left_before = so_far.right_before;
-  right_before = so_far.left_before;
-}
+turned xs ys done left right so_far = search (rules, IsPermutation-trans, IsPermutation-append_comm)
 
 -- the last point of the first list goes in front of the merged ones, where that of the second is before it
 pub left_more : (xs ys done : List Point) (left next right : ℕ) (y : Point) → AllPairs IsBefore xs → AllPairs IsBefore ys
@@ -64,19 +57,13 @@ pub right_more : (xs ys done : List Point) (left right next : ℕ) (y : Point) �
     → IsMerged xs ys done left next → right + 1 ≡ next → y ≡ get_or ys right y
     → ((d : Point) → 0 < left → IsBefore (get_or xs (left - 1) d) y)
     → IsMerged xs ys (y ∷ done) left right
-right_more xs ys done left right next y xs_rise ys_rise so_far one is later =
-    turned ys xs (y ∷ done) right left
-    (left_more ys xs done right next left y ys_rise xs_rise (turned xs ys done left next so_far) one is later)
+right_more xs ys done left right next y xs_rise ys_rise so_far one is later = search (rules, turned, left_more)
 
 -- where the first list is used up, the rest of the second one goes in front
 module _ (xs ys points : List Point) (left right : ℕ)
     (so_far : IsMerged xs ys (drop (left + right) points) left right) (none : left ≤ 0) where
   used_up : IsMerged xs ys (drop right points) 0 right
-  used_up =
-      let here : left ≡ 0 = omega arith in
-      let last : left + right ≡ right = omega arith in
-      subst (λ (k : ℕ). IsMerged xs ys (drop right points) k right) here
-      (subst (λ (k : ℕ). IsMerged xs ys (drop k points) left right) last so_far)
+  used_up = grind (arith, nat_tests, common_steps)
 
   pub all_merged : IsPermutation (xs ++ ys) (take right ys ++ drop right points)
   all_merged =

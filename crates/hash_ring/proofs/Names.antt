@@ -1,5 +1,5 @@
 -- Nodes in the order of their names.
-use Rattle.hash_ring.proofs.Common.{ℕ, zero, suc, ◌≡◌, ◌≢◌, ◌+◌, ◌<◌, ◌≤◌, T, Bool, true, false, not, cond, ◌&&◌, List, [], ◌∷◌, length, get_or, Some, None, Result, Ok, Err, arith, sym, ap, ◌∙◌, subst, refl, ⊎_elim, ◌⊎◌, inl, inr, ◌↔◌, IsTrue, map, reverse, MatchResult, Ordering, Less, Equal, Greater, IsAllAdjacentAnswer, IsDistinct, IsSorted, IsBinarySearchResult, IsSearchInRange, IsSortedBy, nat_cmp, is_eq, eq_by_cmp, ordering_reverse, ordering_then, slice_cmp, nat_list_cmp_total, find, put, is_sorted, slice_cmp-IsAntisymmetric, nat_cmp-IsAntisymmetric, cases_lt, tied_itself, eq_by_cmp_equiv, length-map, get_or-map, get_or_default, reverse-append, IsPermutation-map, IsPermutation-reverse, searchable_from_sorted, fold-append, alike, not_same, order_does_not_show, removal_of_nothing, same, same_itself, same_key, Node, Nodes, IsGapAt, IsNamedAt, node_at, nodes_of, pair_of, pairs, IsDistinct-IsPermutation, IsDistinct-from_apart, apart_from_distinct}
+use Rattle.hash_ring.proofs.Common.{ℕ, zero, suc, ◌≡◌, ◌≢◌, ◌+◌, ◌<◌, ◌≤◌, T, Bool, true, false, not, cond, ◌&&◌, List, [], ◌∷◌, length, get_or, Some, None, Result, Ok, Err, arith, sym, ap, ◌∙◌, subst, refl, ⊎_elim, ◌⊎◌, inl, inr, ◌↔◌, IsTrue, map, reverse, MatchResult, Ordering, Less, Equal, Greater, IsAllAdjacentAnswer, IsDistinct, IsSorted, IsBinarySearchResult, IsSearchInRange, IsSortedBy, nat_cmp, is_eq, eq_by_cmp, ordering_reverse, ordering_then, slice_cmp, nat_list_cmp_total, find, put, is_sorted, slice_cmp-IsAntisymmetric, nat_cmp-IsAntisymmetric, cases_lt, tied_itself, eq_by_cmp_equiv, length-map, get_or-map, get_or_default, reverse-append, IsPermutation-map, IsPermutation-reverse, searchable_from_sorted, alike, not_same, order_does_not_show, removal_of_nothing, same, same_itself, same_key, Node, Nodes, IsGapAt, IsNamedAt, node_at, nodes_of, pair_of, pairs, IsDistinct-IsPermutation, IsDistinct-from_apart, apart_from_distinct, nat_tests, common_steps}
 use Rattle.std.specs.List.{insert, remove}
 use Rattle.std.specs.List.Sorted.{IsPermutation}
 use Rattle.std.specs.Ordering.{is_lt, is_gt}
@@ -91,10 +91,7 @@ rise_exactly (n ∷ ns) false broken = (
       let nodes = n ∷ ns in
       let k : ℕ = broken.0 in
       let rise = names_rise (pairs nodes) sorted k (k + 1) (omega arith) (omega (arith, broken.1, length-map nodes pair_of)) in
-      let not_less = broken.2 n in
-      let here = read nodes n k (omega (arith, broken.1)) in
-      let next = read nodes n (k + 1) broken.1 in
-      cc,
+      grind (arith, nat_tests, common_steps, read nodes n k (omega (arith, broken.1)), read nodes n (k + 1) broken.1),
 )
 
 -- names that rise differ
@@ -139,12 +136,7 @@ less_of_two : (a b : Node) → is_lt (by_name b a) ≡ false → a.name.items �
 less_of_two a b h ne = grind (arith, name_tests, h, ne)
 
 pub sorted_rise : (nodes : List Node) → IsSorted by_name nodes → KeysDiffer (pairs nodes) → T (is_sorted by_bytes (pairs nodes))
-sorted_rise nodes sorted differ =
-    rises_from nodes
-    (λ k d l.
-    less_of_two (get_or nodes k d) (get_or nodes (k + 1) d) (sorted k d (omega arith) l)
-    (λ same. differ k (k + 1) ([], 0) (omega arith) (omega (arith, l, length-map nodes pair_of))
-    (read nodes d k (omega (arith, l)) ∙ same ∙ sym (read nodes d (k + 1) l))))
+sorted_rise nodes sorted differ = grind (arith, nat_tests, common_steps, rises_from, less_of_two, length-map, read, same)
 
 -- a node at an index is found
 pub found_at : (es : Pairs) → T (is_sorted by_bytes es) → (i : ℕ) → i < length es
@@ -191,18 +183,11 @@ pub named_or_gap : (nodes : List Node) (name : List ℕ) (r : Result ℕ ℕ) �
     → IsBinarySearchResult (λ node. by_bytes node.name.items name) nodes r
     → MatchResult r (IsNamedAt (pairs nodes) name) (IsGapAt (pairs nodes) name)
 named_or_gap [] name (Ok i) h below is = absurd (omega arith)
-named_or_gap [] name (Err i) h within is = record {
-  within = omega arith;
-  less = λ k l. absurd (omega arith);
-  greater = λ k l m. absurd (omega arith);
-}
+named_or_gap [] name (Err i) h within is = grind (arith, nat_tests, common_steps)
 named_or_gap (d ∷ ds) name (Ok i) h below is =
     let nodes = d ∷ ds in
     let long = length-map nodes pair_of in
-    record {
-      below = omega arith;
-      is = read nodes d i below ∙ same_key (get_or nodes i d).name.items name (ap is_eq (is d));
-    }
+    grind (arith, nat_tests, common_steps, read nodes d i below, same_key (get_or nodes i d).name.items name (ap is_eq (is d)))
 named_or_gap (d ∷ ds) name (Err i) h within is =
     let nodes = d ∷ ds in
     let long = length-map nodes pair_of in
@@ -302,9 +287,7 @@ no_nodes =
 -- all nodes put in one after the other, in whatever order
 from_last : (es : Pairs) → with_all fin.empty (reverse es) ≡ fin.from_entries es
 from_last [] = refl
-from_last (e ∷ es) =
-    ap (with_all fin.empty) (reverse-append (e ∷ []) es)
-    ∙ fold-append (λ m pair. fin.insert m pair.0 pair.1) fin.empty (reverse es) (e ∷ []) ∙ ap (λ m. fin.insert m e.0 e.1) (from_last es)
+from_last (e ∷ es) = grind (arith, nat_tests, common_steps, reverse-append (e ∷ []) es, from_last es)
 
 pub all_put_in : (es : Pairs) → T (is_sorted by_bytes es) → with_all fin.empty es ≡ nodes_of es
 all_put_in es h =

@@ -1,5 +1,5 @@
 -- Who owns a key, and how a ring's points tell it.
-use Rattle.hash_ring.proofs.Common.{ℕ, zero, suc, min, is_some, take, ◌≡◌, ◌≢◌, ◌+◌, ◌-◌, ◌<◌, ◌≤◌, Bool, T, true, false, not, cond, List, [], ◌∷◌, ◌++◌, length, get_or, Option, Some, None, arith, sym, ap, ◌∙◌, subst, refl, ⊎_elim, inl, inr, ◌⊎◌, ◌↔◌, IsTrue, nat_eq, list_any, eqb-true, nat_list_cmp_total, is_sorted, cases_lt, nat_tests, elements, All-contains, All-nil, All-push, All-take, Contains-append_left, Contains-push, get_or_default, get_or-map, length-map, take_more, Any-from_list_any, list_any-from_Any, AllPairs-cons, get_remove, get_remove_other, get_remove_same, same, same_itself, same_key, eq_by_cmp_equiv, Node, Point, AreOwners, IsFirst, IsFirstToPass, without, HasPoint, IsOwner, IsPointOf, Nodes, point, turn, IsBefore, IsRing, IsStart, index_round, name_at, names_at, node_at, nodes_of, pair_of, pairs, is_gt, length-take-le, Contains-from_any, list_any-from_Contains}
+use Rattle.hash_ring.proofs.Common.{ℕ, zero, suc, min, is_some, take, ◌≡◌, ◌≢◌, ◌+◌, ◌-◌, ◌<◌, ◌≤◌, Bool, T, true, false, not, cond, List, [], ◌∷◌, ◌++◌, length, get_or, Option, Some, None, arith, sym, ap, ◌∙◌, subst, refl, ⊎_elim, inl, inr, ◌⊎◌, ◌↔◌, IsTrue, nat_eq, list_any, nat_list_cmp_total, is_sorted, cases_lt, nat_tests, elements, All-contains, All-nil, All-push, All-take, Contains-append_left, Contains-push, get_or_default, get_or-map, length-map, take_more, Any-from_list_any, list_any-from_Any, AllPairs-cons, get_remove, get_remove_other, get_remove_same, same, same_itself, same_key, eq_by_cmp_equiv, Node, Point, AreOwners, IsFirst, IsFirstToPass, without, HasPoint, IsOwner, IsPointOf, Nodes, point, turn, IsBefore, IsRing, IsStart, index_round, name_at, names_at, node_at, nodes_of, pairs, is_gt, length-take-le, Contains-from_any, list_any-from_Contains, rules, common_steps}
 use Rattle.std.specs.List.{All, AllPairs, Contains}
 use Rattle.std.specs.FinMap as fin
 use Rattle.text_set.proofs.TextMapLemmas.{alike as same_if_alike}
@@ -14,15 +14,12 @@ pub one_owner : (hash : List ℕ → ℕ) (nodes : Nodes) (at : ℕ) (a b : List
 one_owner hash nodes at a b p q =
     let f = p.first b q.place q.has in
     let g = q.first a p.place p.has in
-    let same_turn : turn at p.place ≡ turn at q.place = omega (arith, f.sooner, g.sooner) in
-    let same : p.place ≡ q.place = omega (arith, f.nearer same_turn, g.nearer (sym same_turn)) in
-    neither_greater a b (f.lesser same) (g.lesser (sym same))
+    search (rules, same, neither_greater)
 
 pub no_owner : (hash : List ℕ → ℕ) (at : ℕ) (a : List ℕ) → ¬ IsOwner hash fin.empty at a
 no_owner hash at a o =
     let nothing : Nodes = fin.empty in
     let none : fin.get nothing a ≡ None = fin.get-empty by_bytes a in
-    let some : fin.get nothing a ≡ Some o.has.weight = o.has.there in
     cc
 
 -- ---- a node that has gone
@@ -79,16 +76,7 @@ is_left nodes (a ∷ names) name new =
     ∙ get_remove_other nodes a name (λ is. new (0, omega arith, sym is))
 
 remove_comm : (nodes : Nodes) (a b : List ℕ) → fin.remove (fin.remove nodes a) b ≡ fin.remove (fin.remove nodes b) a
-remove_comm nodes a b =
-    same_if_alike _ _
-    (λ q. grind (
-      arith,
-      name_tests,
-      get_remove (fin.remove nodes a) b q,
-      get_remove nodes a q,
-      get_remove (fin.remove nodes b) a q,
-      get_remove nodes b q,
-    ))
+remove_comm nodes a b = search (rules, same_if_alike, get_remove)
 
 not_there : (hash : List ℕ → ℕ) (nodes : Nodes) (at : ℕ) (gone : List ℕ) (names : List (List ℕ)) → fin.get nodes gone ≡ None
     → AreOwners hash nodes at names → IsNew gone names
@@ -101,8 +89,7 @@ not_there hash nodes at gone (a ∷ names) none o =
 other_kept : (gone : List ℕ) (names : List (List ℕ)) → IsNew gone names → without gone names ≡ names
 other_kept gone [] new = refl
 other_kept gone (a ∷ names) new =
-    let other : a ≢ gone = λ is. new (0, omega arith, is) in
-    grind (arith, name_tests, other, other_kept gone names (new_of_rest a gone names new))
+    grind (arith, name_tests, other_kept gone names (new_of_rest a gone names new))
 
 -- where a node is gone the other owners keep their order
 pub keep_order : (hash : List ℕ → ℕ) (nodes : Nodes) (at : ℕ) (gone : List ℕ) (names : List (List ℕ)) → AreOwners hash nodes at names
@@ -297,11 +284,7 @@ module _ {hash : List ℕ → ℕ} {nodes : Nodes} {at n : ℕ} {nth : ℕ → �
         (so_far : AreRefusedRound hash nodes at nth Refuses steps) where
       pub refused_more : Refuses name → AreRefusedRound hash nodes at nth Refuses (steps + 1)
       refused_more refusal = ⊎_elim
-          (λ (old : Contains so_far.names name). record {
-            names = so_far.names;
-            round = round_old name steps below is so_far.names so_far.round old;
-            refused = so_far.refused;
-          })
+          (λ (old : Contains so_far.names name). search (rules, round_old))
           (λ (new : IsNew name so_far.names). record {
             names = so_far.names ++ name ∷ [];
             round = round_new name steps below is so_far.names so_far.round new;
@@ -320,12 +303,7 @@ module _ {hash : List ℕ → ℕ} {nodes : Nodes} {at n : ℕ} {nth : ℕ → �
             refused = All-take Refuses old.0 so_far.names so_far.refused;
             passes = pass;
           })
-          (λ (new : IsNew name so_far.names). record {
-            before = so_far.names;
-            owners = (round_new name steps below is so_far.names so_far.round new).own;
-            refused = so_far.refused;
-            passes = pass;
-          })
+          (λ (new : IsNew name so_far.names). search (rules, round_new))
           (among_or_new name so_far.names)
 
 -- ---- the way round a ring's points
@@ -365,9 +343,7 @@ module _ (hash : List ℕ → ℕ) (es : Pairs) (points : List Point) (ring : Is
       let later : at ≤ (the s).place = start.after (index s) none (omega (arith, e)) there in
       inl (e, there, grind (arith, nat_tests)))
       (λ (high : length points - first ≤ s).
-      let e : index s + (length points - first) ≡ s = grind (arith, nat_tests) in
-      let sooner : (the s).place < at = start.before (index s) none (omega (arith, e)) in
-      inr (e, omega (arith, e), grind (arith, nat_tests)))
+      grind (arith, nat_tests, common_steps))
       (cases_lt s (length points - first))
 
   there : (s : ℕ) → s < length points → index s < length points
@@ -380,7 +356,6 @@ module _ (hash : List ℕ → ℕ) (es : Pairs) (points : List Point) (ring : Is
   reached : (k : ℕ) (p : Point) → k < length points → get_or points k p ≡ p → (s : ℕ) × (s < length points) × (the s ≡ p)
   reached k p below is =
       let n = length points in
-      let within : first ≤ n = start.within in
       let here : (s : ℕ) → index s ≡ k → the s ≡ p = λ s e. ap (λ (k : ℕ). get_or points k none) e ∙ get_or_default points k none p below ∙ is in
       ⊎_elim
       (λ (low : k < first). (k + (n - first), omega arith, here (k + (n - first)) (grind (arith, nat_tests))))
@@ -391,21 +366,11 @@ module _ (hash : List ℕ → ℕ) (es : Pairs) (points : List Point) (ring : Is
       → IsFirst at (spot es points first s).1 (the s).place (spot es points first t).1 (the t).place
   in_order s t below le turns =
       let b = upto points ring.ordered (index s) (index t) none le (there t below) in
-      let last = is_there hash es (the t).node (the t).place (own t below) in
-      record {
-        sooner = omega (arith, turns);
-        nearer = λ _. b.place;
-        lesser = λ e. no_greater es ring.named (the s).node (the t).node (b.node e) last;
-      }
+      search (rules, is_there, own, no_greater)
 
   pub round_of : IsRound hash (nodes_of es) at (length points) (spot es points first)
   round_of = record {
-    real = λ s below. record {
-      weight = (node_at es (the s).node).1;
-      there = get_is es ring.named (spot es points first s).1
-          ∙ found_at es ring.named (the s).node (is_there hash es (the s).node (the s).place (own s below));
-      point = own s below;
-    };
+    real = λ s below. search (rules, there, get_is, found_at, is_there, own);
     all = λ name place p.
         let f = found_where es name p.weight (sym (get_is es ring.named name) ∙ p.there) in
         let its : Point = record { place = place; node = f.i } in
@@ -419,11 +384,7 @@ module _ (hash : List ℕ → ℕ) (es : Pairs) (points : List Point) (ring : Is
     in_turn = λ s t le below. ⊎_elim
         (λ a. ⊎_elim
         (λ b. in_order s t below (omega (arith, a.0, b.0)) (a.2 ∙ sym b.2))
-        (λ b. record {
-          sooner = omega (arith, a.2, b.2);
-          nearer = λ e. absurd (omega (arith, a.2, b.2, e));
-          lesser = λ e. let same_turn = ap (turn at) e in absurd (omega (arith, a.2, b.2, same_turn));
-        })
+        (λ b. grind (arith, nat_tests, common_steps))
         (side t below))
         (λ a. ⊎_elim
         (λ b. let upto_it : index t < length points = b.1 in absurd (omega (arith, a.0, b.0, le, upto_it)))
@@ -440,11 +401,7 @@ module _ (hash : List ℕ → ℕ) (es : Pairs) (points : List Point) (ring : Is
 pub name_here : (hash : List ℕ → ℕ) (nodes : List Node) (points : List Point) → IsRing hash (pairs nodes) points
     → (k : ℕ) (d : Node) (text : List ℕ) → k < length points → text ≡ (get_or nodes (get_or points k none).node d).name.items
     → name_at (pairs nodes) points k ≡ text
-name_here hash nodes points ring k d text below is =
-    let p = get_or points k none in
-    let there : p.node < length nodes =
-    omega (arith, is_there hash (pairs nodes) p.node p.place (ring.just.real k none below), length-map nodes pair_of) in
-    read nodes d p.node there ∙ sym is
+name_here hash nodes points ring k d text below is = search (rules, there, is_there, length-map, read)
 
 pub name_read : (hash : List ℕ → ℕ) (nodes : List Node) (points : List Point) → IsRing hash (pairs nodes) points
     → (first steps k : ℕ) (d : Node) (text : List ℕ) → k < length points → k ≡ index_round (length points) first steps
@@ -473,30 +430,17 @@ one_index es sorted i j low high is = ⊎_elim
 
 -- what a search for a node says
 pub among_exactly : (nodes : List ℕ) (node : ℕ) (b : Bool) → b ≡ list_any (λ y. nat_eq y node) nodes → IsTrue b ↔ Contains nodes node
-among_exactly nodes node b e = (
-  λ h. let a = Any-from_list_any (λ y. nat_eq y node) nodes (sym e ∙ h) in
-      (a.0, a.2, get_or_default nodes a.0 node a.1 a.2 ∙ a.3 ∙ eqb-true a.1 node a.4),
-  λ c. e ∙ list_any-from_Any (λ y. nat_eq y node) nodes (c.0, node, c.1, c.2, grind (arith, nat_tests)),
-)
+among_exactly nodes node b e = search (rules, Any-from_list_any, get_or_default, list_any-from_Any)
 
 module _ (es : Pairs) (sorted : T (is_sorted by_bytes es)) where
   -- some nodes of those that are there, by their indices
   module _ (nodes : List ℕ) (real : All (λ i. i < length es) nodes) (node : ℕ) (below : node < length es) where
     -- a node is among them exactly if its name is among theirs
     pub name_among : Contains nodes node → Contains (names_at es nodes) (node_at es node).0
-    name_among c =
-        let name = λ (i : ℕ). (node_at es i).0 in
-        (c.0, omega (arith, c.1, length-map nodes name), get_or-map name nodes c.0 node (node_at es node).0 c.1 ∙ ap name c.2)
+    name_among c = search (rules, length-map, get_or-map)
 
     pub node_among : Contains (names_at es nodes) (node_at es node).0 → Contains nodes node
-    node_among c =
-        let name = λ (i : ℕ). (node_at es i).0 in
-        let low : c.0 < length nodes = omega (arith, c.1, length-map nodes name) in (
-          c.0,
-          low,
-          one_index es sorted (get_or nodes c.0 node) node (real c.0 node low) below
-              (sym (get_or-map name nodes c.0 node (node_at es node).0 low) ∙ c.2),
-        )
+    node_among c = search (rules, length-map, one_index, get_or-map)
 
   -- how many they are
   pub as_many : (nodes : List ℕ) (count m : ℕ) → count ≤ length nodes

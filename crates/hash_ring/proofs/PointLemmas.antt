@@ -1,5 +1,5 @@
 -- The points of nodes, in a list and in order.
-use Rattle.hash_ring.proofs.Common.{ℕ, ◌≡◌, ◌<◌, ◌≤◌, ◌+◌, ◌-◌, ◌/◌, ◌++◌, ◌∷◌, [], Bool, true, ltb, if◌then◌else◌, List, length, get_or, map, arith, sym, ap, ◌∙◌, subst, refl, false, Some, ◌⊎◌, ⊎_elim, ◌↔◌, IsTrue, Ordering, All-append, Contains-append_left, Contains-append_right, IsAllAdjacentAnswer, IsNonDecreasingBy, IsSorted, nat_cmp, is_le, is_some_and, ordering_then, partial_ordering_then, nat_tests, then_total, on_total, nat_cmp_total, get_or_default, get_or_past, get_or-map, length-map, All-permutation, Contains-permutation, sorted_far, ranks_by, elements, ltb-true, ltb-false, Point, IsPointOf, point, ArePoints, IsBefore, IsPointOfItsNode, IsStart, node_at, points_of, append_assoc, map-range_with_len_more, length-map-range_with_len, get_or-map-range_with_len}
+use Rattle.hash_ring.proofs.Common.{ℕ, ◌≡◌, ◌<◌, ◌≤◌, ◌+◌, ◌-◌, ◌/◌, ◌++◌, ◌∷◌, [], Bool, true, ltb, if◌then◌else◌, List, length, get_or, map, arith, sym, ap, ◌∙◌, subst, refl, false, Some, ◌⊎◌, ⊎_elim, ◌↔◌, IsTrue, Ordering, All-append, Contains-append_left, Contains-append_right, IsAllAdjacentAnswer, IsNonDecreasingBy, IsSorted, nat_cmp, is_le, is_some_and, ordering_then, partial_ordering_then, nat_tests, then_total, on_total, nat_cmp_total, get_or_default, get_or_past, get_or-map, length-map, All-permutation, Contains-permutation, sorted_far, ranks_by, elements, Point, IsPointOf, point, ArePoints, IsBefore, IsPointOfItsNode, IsStart, node_at, points_of, append_assoc, map-range_with_len_more, length-map-range_with_len, get_or-map-range_with_len, rules, common_steps}
 use Rattle.std.specs.List.{All, AllPairs, Contains}
 use Rattle.std.specs.List.Sorted.{IsPermutation}
 use Rattle.std.specs.Ordering.{is_lt}
@@ -15,16 +15,10 @@ module _ (hash : List ℕ → ℕ) where
   -- a point of a node is among the node's points, and only such are
   pub among : (node : List ℕ × ℕ) (i place : ℕ) → IsPointOf hash node place
       → Contains (points_of hash node i) (record { place = place; node = i })
-  among node i place of =
-      let nth = λ (k : ℕ). let p : Point = record { place = point hash node.0 k; node = i } in p in
-      (of.number, omega (arith, of.below, length-map-range_with_len nth 0 node.1), grind (arith, elements, of.is, of.below, get_or-map-range_with_len))
+  among node i place of = search (rules, length-map-range_with_len, get_or-map-range_with_len)
 
   pub each : (node : List ℕ × ℕ) (i : ℕ) → All (λ p. (p.node ≡ i) × IsPointOf hash node p.place) (points_of hash node i)
-  each node i k d below =
-      let nth = λ (j : ℕ). let p : Point = record { place = point hash node.0 j; node = i } in p in
-      let less : k < node.1 = omega (arith, length-map-range_with_len nth 0 node.1) in
-      subst (λ p. (p.node ≡ i) × IsPointOf hash node p.place) (sym (get_or-map-range_with_len nth 0 node.1 k k d less (omega arith)))
-      (refl, record { number = k; below = less; is = refl })
+  each node i k d below = search (rules, length-map-range_with_len, get_or-map-range_with_len)
 
   -- a point more
   pub one_more : (name : List ℕ) (k i : ℕ) (points now : List Point) (place : ℕ) → now ≡ points ++ points_of hash (name, k) i
@@ -94,9 +88,7 @@ sorted_exactly points false broken = (
   λ no. cc,
   λ ordered.
       let d : Point = record { place = 0; node = 0 } in
-      let yes = no_more_before _ _ (ordered broken.0 (broken.0 + 1) d (omega arith) broken.1) in
-      let no = broken.2 d in
-      cc,
+      grind (arith, nat_tests, common_steps, no_more_before _ _ (ordered broken.0 (broken.0 + 1) d (omega arith) broken.1)),
 )
 
 -- what `<` says of two points
@@ -141,13 +133,11 @@ pub narrowed : (points : List Point) (at first size half : ℕ) (d : Point) (is 
 narrowed points at first size half d true ordered old less twice is =
     let upto : first + size ≤ length points = old.within in
     let there : first + half < length points = omega arith in
-    let here : (get_or points (first + half) d).place < at = ltb-true _ _ (sym is) in
     record {
       within = omega arith;
       before = λ k e below.
           grind (
             arith,
-            here,
             places_rise points ordered k (first + half) e (omega arith) there,
             get_or_default points (first + half) e d there,
           );
@@ -156,14 +146,12 @@ narrowed points at first size half d true ordered old less twice is =
 narrowed points at first size half d false ordered old less twice is =
     let upto : first + size ≤ length points = old.within in
     let there : first + half < length points = omega arith in
-    let here : at ≤ (get_or points (first + half) d).place = ltb-false _ _ (sym is) in
     record {
       within = omega arith;
       before = λ k e below. old.before k e (omega arith);
       after = λ k e from low.
           grind (
             arith,
-            here,
             places_rise points ordered (first + half) k e (omega arith) low,
             get_or_default points (first + half) e d there,
           );

@@ -1,5 +1,5 @@
 -- How many places of the ring each node owns.
-use Rattle.hash_ring.proofs.Common.{ℕ, ◌≡◌, ◌≢◌, ◌+◌, ◌-◌, ◌*◌, replicate, ◌<◌, ◌≤◌, ◌^◌, cond, sum, T, slice_get, Some, List, [], ◌∷◌, ◌++◌, map, length, get_or, set, arith, sym, ap, ◌∙◌, subst, refl, ⊎_elim, sum_by, is_sorted, cases_eq, cases_lt, nat_tests, get_or-replicate, length-replicate, get_or-map, get_or_default, length-map, length-set, same_lists, elements, sum_by-replicate, sum_by-append, sum_by-cons, sum_by-set, same, Point, AreShares, AreStretches, IsOwner, Nodes, Stretch, share_of, IsRing, index_round, node_at, nodes_of}
+use Rattle.hash_ring.proofs.Common.{ℕ, ◌≡◌, ◌≢◌, ◌+◌, ◌-◌, replicate, ◌<◌, ◌≤◌, ◌^◌, cond, sum, T, slice_get, Some, List, [], ◌∷◌, ◌++◌, map, length, get_or, set, arith, sym, ap, ◌∙◌, subst, refl, ⊎_elim, is_sorted, cases_eq, cases_lt, nat_tests, get_or-replicate, length-replicate, get_or-map, get_or_default, length-map, length-set, same_lists, elements, sum_by-replicate, sum_by-append, sum_by-cons, sum_by-set, same, Point, AreShares, AreStretches, IsOwner, Nodes, Stretch, share_of, IsRing, index_round, node_at, nodes_of, rules}
 use Rattle.hash_ring.proofs.Names.{Pairs, by_bytes, entries_are, name_tests}
 use Rattle.hash_ring.proofs.Owners.{first_owner, none, one_index, spot}
 use Rattle.hash_ring.proofs.PointLemmas.{is_there, places_rise}
@@ -51,9 +51,7 @@ its name s = cond (same name s.owner) (s.to - s.from) 0
 
 share_push : (stretches : List Stretch) (s : Stretch) (name : List ℕ)
     → share_of (stretches ++ s ∷ []) name ≡ share_of stretches name + its name s
-share_push stretches s name =
-    let one : sum_by (its name) (s ∷ []) ≡ its name s + 0 = sum_by-cons (its name) s [] in
-    sum_by-append (its name) stretches (s ∷ []) ∙ omega (arith, one)
+share_push stretches s name = search (rules, sum_by-cons, sum_by-append)
 
 pub one_stretch_more : (es : Pairs) → T (is_sorted by_bytes es) → (stretches : List Stretch) (shares next : List ℕ) (n from to : ℕ)
     → AreSharesOf es stretches shares from → n < length es → from ≤ to → next ≡ set shares n (get_or shares n 0 + (to - from))
@@ -90,17 +88,7 @@ pub record AreSharesUpto (hash : List ℕ → ℕ) (es : Pairs) (points : List P
 
 pub none_yet : (hash : List ℕ → ℕ) (es : Pairs) (points : List Point) (n : ℕ) (shares : List ℕ) → n ≡ length es → shares ≡ replicate n 0
     → AreSharesUpto hash es points 0 shares 0
-none_yet hash es points n shares long is = record {
-  stretches = [];
-  whole = refl;
-  of = record {
-    long = ap length is ∙ length-replicate n 0 ∙ long;
-    each = λ j l. ap (λ xs. get_or xs j 0) is ∙ get_or-replicate n j 0 0 (omega (arith, long));
-    total = let none : n * 0 ≡ 0 = omega arith in ap sum is ∙ sum_by-replicate (λ x. x) n 0 ∙ none;
-  };
-  passed = λ k d l. absurd (omega arith);
-  ahead = λ k d low l. omega arith;
-}
+none_yet hash es points n shares long is = search (rules, length-replicate, get_or-replicate, none, sum_by-replicate)
 
 module _ (hash : List ℕ → ℕ) (es : Pairs) (points : List Point) (ring : IsRing hash es points) (i : ℕ) (shares next : List ℕ)
     (from was : ℕ) (so_far : AreSharesUpto hash es points i shares from) where
@@ -126,11 +114,7 @@ module _ (hash : List ℕ → ℕ) (es : Pairs) (points : List Point) (ring : Is
         );
         of = one_stretch_more es ring.named so_far.stretches shares next p.node from to so_far.of there rises
             (is ∙ ap (λ n. set shares p.node (n + (to - from))) now);
-        passed = λ k e l. ⊎_elim
-            (λ (low : k < i). omega (arith, so_far.passed k e low, rises))
-            (λ (high : i ≤ k). let same : k ≡ i = omega arith in
-            omega (arith, ap (λ (j : ℕ). (get_or points j e).place) same, place e, to_is))
-            (cases_lt k i);
+        passed = λ k e l. search (rules, same, cases_lt);
         ahead = λ k e low l. omega (arith, to_is, place e, places_rise points ring.ordered i k e (omega arith) l);
       }
 

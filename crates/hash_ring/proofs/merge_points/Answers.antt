@@ -1,4 +1,4 @@
-use Rattle.hash_ring.proofs.Lemmas.{◌≡◌, ◌∙◌, ◌++◌, List, ap, sym, subst, length, map, take, take_at, IsPermutation-append_right, IsPermutation-trans, Point, opened_up, pair_of, points_of, IsPermutation, over}
+use Rattle.hash_ring.proofs.Lemmas.{◌≡◌, ◌∙◌, ◌++◌, List, ap, sym, subst, length, map, take, take_at, IsPermutation-append_right, IsPermutation-trans, Point, opened_up, pair_of, points_of, IsPermutation, over, arith, nat_tests, common_steps}
 use Rattle.hash_ring.proofs.merge_points.Goals as goal
 
 pub returns-clause-merged : goal.returns-clause-merged
@@ -16,10 +16,7 @@ returns-clause-merged g c =
     ∙ take_at old.items added c.len-others.result (sym (c.len-others.ensures ∙ old.ok.0)) in
     let long : length merged ≡ length both.items = c.merge_backward.auto.points ∙ ap length c.deref_mut.ensures.value in
     let all : IsPermutation (others ++ added) merged =
-    subst (λ (ps : List Point). IsPermutation (map (opened_up c.args.index) ps ++ added) merged) front
-    (subst (λ (ps : List Point). IsPermutation (map (opened_up c.args.index) (take c.len-others.result c.deref_mut.result.now) ++ ps)
-    merged) c.deref-2.ensures.value
-    c.merge_backward.ensures.merged) in
+    grind (arith, nat_tests, common_steps) in
     subst (λ (ps : List Point). IsPermutation (others ++ its) ps) (sym (over merged both.items both.len long both.ok.0))
     (IsPermutation-trans (others ++ its) (others ++ added) merged (IsPermutation-append_right others its added c.in_ok-added.ensures.just)
     all)

@@ -1,4 +1,4 @@
-use Rattle.hash_ring.proofs.Lemmas.{ℕ, ◌≡◌, ◌∙◌, ◌++◌, ◌∷◌, [], List, get_or, take, sym, ap, Bor, map-append, take_more, texts, names_at, node_at, pairs, read}
+use Rattle.hash_ring.proofs.Lemmas.{◌≡◌, ◌∙◌, get_or, sym, map-append, take_more, node_at, pairs, read, arith, nat_tests, common_steps}
 use Rattle.hash_ring.proofs.names_of.Goals as goal
 
 pub loop-at-preserved : goal.loop-at-preserved
@@ -11,7 +11,4 @@ loop-at-preserved c =
     let is : (node_at (pairs nodes) i).0 ≡ name.now =
     read nodes c.index-nodes-indices.result i (c.requires at 0 c.loop-at-test.true)
     ∙ sym c.as_slice.ensures.value in
-    ap texts c.in_ok-push.ensures.items ∙ map-append (λ (x : Bor (List ℕ)). x.now) c.loop-at.names.items (name ∷ [])
-    ∙ (λ j. c.loop-at.invariant j ++ sym is j ∷ [])
-    ∙ sym (ap (names_at (pairs nodes)) (take_more indices at 0 c.loop-at-test.true)
-    ∙ map-append (λ k. (node_at (pairs nodes) k).0) (take at indices) (i ∷ []))
+    grind (arith, nat_tests, common_steps, map-append, take_more)

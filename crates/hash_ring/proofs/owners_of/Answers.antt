@@ -1,17 +1,12 @@
-use Rattle.hash_ring.proofs.Lemmas.{ℕ, ◌≡◌, ◌<◌, ◌≤◌, ◌∙◌, length, take, ap, sym, subst, arith, min, AreOwners, names_at, nodes_of, All, length-take-le, over}
+use Rattle.hash_ring.proofs.Lemmas.{ℕ, ◌≡◌, ◌<◌, ◌≤◌, ◌∙◌, length, take, ap, sym, subst, arith, min, All, length-take-le, over, rules}
 use Rattle.hash_ring.proofs.owners_of.Goals as goal
 use Rattle.hash_ring.proofs.owners_of.Goals.{After-truncate}
 
 kept : (c : After-truncate) → c.truncate.new.self.items ≡ take c.owners_at-count.result c.owners_at-count.new.nodes
-kept c =
-    let room = c.in_ok-owners.owners in
-    c.truncate.ensures.items ∙ ap (take c.owners_at-count.result)
-    (over c.owners_at-count.new.nodes room.items room.len (c.owners_at-count.auto.nodes ∙ ap length c.deref_mut.ensures.value) room.ok.0)
+kept c = search (rules, over)
 
 pub returns-clause-own : goal.returns-clause-own
-returns-clause-own c = λ hash named ring.
-    subst (λ found. AreOwners hash (nodes_of named) c.args.place (names_at named found)) (sym (kept c))
-    (c.owners_at-count.ensures.own hash named ring)
+returns-clause-own c = search (rules, kept)
 
 pub returns-clause-real : goal.returns-clause-real
 returns-clause-real c = λ hash named ring.

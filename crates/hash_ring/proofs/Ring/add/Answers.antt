@@ -1,35 +1,21 @@
-use Rattle.hash_ring.proofs.Lemmas.{◌≡◌, ◌∙◌, ◌≤◌, ◌++◌, map, ap, sym, subst, refl, length, get_or, arith, length-map, IsPermutation-refl, get_or-insert_at, Node, IsRing, nodes_of, opened_up, pair_of, pairs, points_of, insert, IsPermutation, absent, found, gap_read, inserted, len_of, pairs_insert, ring_merged}
+use Rattle.hash_ring.proofs.Lemmas.{◌≡◌, ◌∙◌, ◌++◌, map, ap, sym, subst, get_or, arith, length-map, IsPermutation-refl, get_or-insert_at, Node, IsRing, nodes_of, opened_up, pair_of, pairs, points_of, insert, IsPermutation, absent, found, gap_read, inserted, len_of, pairs_insert, ring_merged, rules, nat_tests, common_steps}
 use Rattle.std.specs.FinMap as fin
 use Rattle.hash_ring.proofs.Ring.add.Goals as goal
 
 pub returns-in-Ok-clause-err : goal.returns-in-Ok-clause-err
-returns-in-Ok-clause-err g c = (
-  refl,
-  λ none.
-      let there = ap (fin.get c.args.self.now) (sym c.deref.ensures.value) ∙ found _ _ c.in-Ok.field-0 c.in-Ok.ensures in
-      cc,
-)
+returns-in-Ok-clause-err g c = search (rules, found)
 
 pub insert-requires : goal.insert-requires
-insert-requires g c =
-    let nodes = c.self.inside.nodes in
-    omega (arith, c.in-Err.ensures.within, len_of nodes.items _ c.self.invariant.named c.self.view_is, nodes.ok.0)
+insert-requires g c = search (rules, len_of)
 
 pub index-requires : goal.index-requires
-index-requires g c =
-    let nodes = c.self.inside.nodes in
-    omega (arith, c.in-Err.ensures.within, len_of nodes.items _ c.self.invariant.named c.self.view_is, nodes.ok.0, c.in_default.ensures.len)
+index-requires g c = search (rules, len_of)
 
 pub remove-requires : goal.remove-requires
-remove-requires g c =
-    let nodes = c.self.inside.nodes in
-    omega (arith, c.in-Err.ensures.within, len_of nodes.items _ c.self.invariant.named c.self.view_is, nodes.ok.0, c.in_default.ensures.len)
+remove-requires g c = search (rules, len_of)
 
 pub returns-in-Err-insert-clause-err : goal.returns-in-Err-insert-clause-err
-returns-in-Err-insert-clause-err g c = (
-  ap (λ (node : Node). node.name) c.in-Err-insert.ensures.value_returned,
-  ap (fin.get c.args.self.now) (sym c.deref.ensures.value) ∙ absent _ _ c.in-Err.at c.in-Err.ensures,
-)
+returns-in-Err-insert-clause-err g c = grind (arith, nat_tests, common_steps, absent _ _ c.in-Err.at c.in-Err.ensures)
 
 pub invariant_of-self-in-Ok-merge_points : goal.invariant_of-self-in-Ok-merge_points
 invariant_of-self-in-Ok-merge_points g c =
@@ -69,9 +55,4 @@ pub returns-in-Err-merge_points-clause-err : goal.returns-in-Err-merge_points-cl
 returns-in-Err-merge_points-clause-err g c =
     let nodes = c.self.inside.nodes.items in
     let at = c.in-Err.at in
-    let within : at ≤ length nodes = omega (arith, c.in-Err.ensures.within, len_of nodes _ c.self.invariant.named c.self.view_is) in (
-      ap (λ (node : Node). node.name)
-          (c.remove.ensures.value ∙ ap (λ ns. get_or ns at c.remove.result) c.in_default.ensures.items
-          ∙ get_or-insert_at nodes at (record { name = c.args.name; weight = c.args.weight }) c.remove.result within),
-      ap (fin.get c.args.self.now) (sym c.deref.ensures.value) ∙ absent _ _ at c.in-Err.ensures,
-    )
+    grind (arith, nat_tests, common_steps, len_of nodes _ c.self.invariant.named c.self.view_is, absent _ _ at c.in-Err.ensures)

@@ -1,4 +1,4 @@
-use Rattle.hash_ring.proofs.Lemmas.{Bool, List, ◌≡◌, ◌≤◌, ◌∙◌, ap, sym, subst, length, T, ◌↔◌, IsTrue, is_sorted, length-map, All-map, All-permutation, IsPermutation-map, IsPermutation-sym, length_permutation, order_does_not_show, Node, ArePoints, pair_of, pairs, KeysDiffer-permutation, all_put_in, by_bytes, entries_are, rising_differ, sorted_rise}
+use Rattle.hash_ring.proofs.Lemmas.{Bool, List, ◌≡◌, ◌≤◌, ◌∙◌, ap, sym, subst, length, T, ◌↔◌, IsTrue, is_sorted, length-map, All-map, All-permutation, IsPermutation-map, IsPermutation-sym, length_permutation, order_does_not_show, Node, ArePoints, pair_of, pairs, KeysDiffer-permutation, all_put_in, by_bytes, entries_are, rising_differ, sorted_rise, arith, rules, nat_tests, common_steps}
 use Rattle.std.specs.FinMap as fin
 use Rattle.hash_ring.proofs.Ring.from_nodes.Goals as goal
 
@@ -7,14 +7,7 @@ rise : (sorted now : List Node) (b : Bool) → now ≡ sorted → IsTrue b ↔ T
 rise sorted now b is told rises = subst (λ ns. T (is_sorted by_bytes (pairs ns))) is (told.0 rises)
 
 pub returns-then-not-names_rise-clause-err : goal.returns-then-not-names_rise-clause-err
-returns-then-not-names_rise-clause-err g c = (
-  c.sort_unstable.ensures.permutation,
-  λ differ.
-      let rises = sorted_rise c.sort_unstable.new.self.items c.sort_unstable.ensures.sorted differ in
-      let yes = c.names_rise.ensures.1 (subst (λ ns. T (is_sorted by_bytes (pairs ns))) (sym c.deref.ensures.value) rises) in
-      let no = c.if-not-names_rise.true in
-      cc,
-)
+returns-then-not-names_rise-clause-err g c = grind (arith, nat_tests, common_steps, sorted_rise, by_bytes)
 
 pub invariant_of-result : goal.invariant_of-result
 invariant_of-result g c =
@@ -52,7 +45,4 @@ returns-in-Ok-clause-count g c =
     ∙ length_permutation _ sorted c.sort_unstable.ensures.permutation
 
 pub returns-in-Err-clause-err : goal.returns-in-Err-clause-err
-returns-in-Err-clause-err g c = (
-  c.sort_unstable.ensures.permutation,
-  rising_differ (pairs c.sort_unstable.new.self.items) (rise _ _ _ c.deref.ensures.value c.names_rise.ensures c.if-not-names_rise.false),
-)
+returns-in-Err-clause-err g c = search (rules, rising_differ, rise)

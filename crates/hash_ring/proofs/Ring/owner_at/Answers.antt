@@ -1,4 +1,4 @@
-use Rattle.hash_ring.proofs.Lemmas.{◌≡◌, ◌<◌, ◌∙◌, ap, sym, subst, arith, length, get_or, get_or_default, length-map, nat_tests, eqb-true, Point, Node, IsOwner, IsRing, name_at, pair_of, pairs, ring_of, is_there, name_here, no_owner, no_points, none}
+use Rattle.hash_ring.proofs.Lemmas.{◌≡◌, ◌<◌, ◌∙◌, ap, sym, subst, arith, length, get_or_default, length-map, nat_tests, eqb-true, IsOwner, IsRing, name_at, pairs, ring_of, is_there, name_here, no_owner, no_points, none, rules, common_steps}
 use Rattle.hash_ring.proofs.Ring.owner_at.Goals as goal
 
 pub returns-then-is_empty-clause-none : goal.returns-then-is_empty-clause-none
@@ -9,22 +9,7 @@ returns-then-is_empty-clause-none g c =
     (sym points.ok.0 ∙ none)
 
 pub index-requires : goal.index-requires
-index-requires g c =
-    let nodes = c.self.inside.nodes in
-    let points = c.self.inside.points in
-    let some : 0 < length points.items = grind (arith, nat_tests, points.ok.0, c.if-is_empty.ensures) in
-    let k = c.owner_at.result in
-    let same : length c.deref.result.now ≡ length points.items = ap length c.deref.ensures.value in
-    let below : k < length points.items = omega (arith, same, c.owner_at.ensures.within (omega (arith, some, same))) in
-    let p = get_or points.items k none in
-    let read : c.index-point.result.now ≡ p = c.index-point.ensures ∙ get_or_default points.items k c.index-point.result.now none below in
-    omega (
-      arith,
-      ap (λ (q : Point). q.node) read,
-      nodes.ok.0,
-      length-map nodes.items pair_of,
-      is_there g.H.Piecewise.hash_of (pairs nodes.items) p.node p.place (c.self.invariant.just.real k none below),
-    )
+index-requires g c = search (rules, none, get_or_default, length-map, is_there)
 
 pub returns-clause-owns : goal.returns-clause-owns
 returns-clause-owns g c =
@@ -37,10 +22,7 @@ returns-clause-owns g c =
     let has : 0 < length c.deref.result.now = omega (arith, some, same) in
     let below : k < length points.items = omega (arith, same, c.owner_at.ensures.within has) in
     let name : name_at (pairs nodes) points.items k ≡ c.deref-2.result.now =
-    name_here hash nodes points.items c.self.invariant k c.index.result.now c.deref-2.result.now below
-    (c.deref-2.ensures.value ∙ ap (λ (n : Node). n.name.items) (c.index.ensures
-    ∙ ap (λ (p : Point). get_or nodes p.node c.index.result.now)
-    (c.index-point.ensures ∙ get_or_default points.items k c.index-point.result.now none below))) in
+    grind (arith, nat_tests, common_steps, name_here, get_or_default, none) in
     let ring = subst (IsRing hash (pairs nodes)) (sym c.deref.ensures.value) c.self.invariant in
     subst (λ nodes. IsOwner hash nodes c.args.place c.deref-2.result.now) c.self.view_is
     (subst (IsOwner hash (ring_of nodes) c.args.place) (ap (λ ps. name_at (pairs nodes) ps k) c.deref.ensures.value ∙ name)

@@ -1,4 +1,4 @@
-use Rattle.hash_ring.proofs.Lemmas.{ℕ, ◌≡◌, ◌<◌, ◌∙◌, length, min, arith, ap, sym, subst, length-map, texts, AreOwners, IsRing, names_at, node_at, pair_of, pairs, All, IfOk-weaker, len_of, different}
+use Rattle.hash_ring.proofs.Lemmas.{ℕ, ◌≡◌, ◌<◌, ◌∙◌, length, arith, ap, sym, subst, length-map, texts, AreOwners, IsRing, names_at, pair_of, pairs, All, IfOk-weaker, len_of, different, rules, nat_tests, common_steps}
 use Rattle.std.specs.FinMap as fin
 use Rattle.hash_ring.proofs.Ring.owners.Goals as goal
 
@@ -18,11 +18,7 @@ returns-clause-own g c =
     let ring = subst (IsRing hash (pairs nodes)) (sym c.deref.ensures.value) c.self.invariant in
     let own = subst (λ m. AreOwners hash m c.hash_of.result (names_at (pairs nodes) c.in_ok-owners.owners.items)) c.self.view_is
     (c.in_ok-owners.ensures.own hash (pairs nodes) ring) in
-    IfOk-weaker c.names_of.result _ _
-    (λ xs is. subst (AreOwners hash c.args.self.now (hash c.args.key.now))
-    (sym (is ∙ (λ i. names_at (pairs (c.deref-2.ensures.value i)) (c.deref-3.ensures.value i))))
-    (subst (λ (at : ℕ). AreOwners hash c.args.self.now at (names_at (pairs nodes) c.in_ok-owners.owners.items)) c.hash_of.ensures.value own))
-    c.names_of.ensures
+    search (rules, IfOk-weaker)
 
 pub returns-clause-count : goal.returns-clause-count
 returns-clause-count g c =
@@ -33,12 +29,7 @@ returns-clause-count g c =
     let all : length nodes.items ≡ fin.len c.args.self.now =
     len_of nodes.items _ c.self.invariant.named c.self.view_is ∙ sym (fin.len-entries _) in
     let count = ap length c.deref-3.ensures.value ∙ c.in_ok-owners.ensures.count hash (pairs nodes.items) ring in
-    let few : length found ≡ min c.args.n (fin.len c.args.self.now) =
-    omega (arith, count, length-map nodes.items pair_of, c.min-most.ensures, c.len.ensures, nodes.ok.0, all) in
-    IfOk-weaker c.names_of.result _ _
-    (λ xs is. sym (length-map xs.items (λ x. x.now)) ∙ ap length is
-    ∙ length-map found (λ (i : ℕ). (node_at (pairs c.deref-2.result.now) i).0) ∙ few)
-    c.names_of.ensures
+    grind (arith, nat_tests, common_steps, length-map nodes.items pair_of)
 
 pub returns-clause-different : goal.returns-clause-different
 returns-clause-different g c =

@@ -1,4 +1,4 @@
-use Rattle.hash_ring.proofs.Lemmas.{ℕ, ◌≡◌, ◌≢◌, ◌≤◌, ◌<◌, ◌∙◌, ap, sym, subst, length, arith, ⊎_elim, List, cases_lt, Point, AreShares, Nodes, IsRing, nodes_of, pairs, Pairs, len_of, no_points}
+use Rattle.hash_ring.proofs.Lemmas.{ℕ, ◌≡◌, ◌≢◌, ◌≤◌, ◌<◌, ◌∙◌, ap, sym, length, arith, ⊎_elim, List, cases_lt, Point, Nodes, IsRing, nodes_of, Pairs, len_of, no_points, nat_tests, common_steps}
 use Rattle.std.specs.FinMap as fin
 use Rattle.hash_ring.proofs.Ring.shares.Goals as goal
 
@@ -14,9 +14,7 @@ some_point hash es points read m ring view is some = ⊎_elim
 pub returns-clause-each : goal.returns-clause-each
 returns-clause-each g c = λ some.
     let hash = g.H.Piecewise.hash_of in
-    let there = some_point hash _ _ _ _ c.self.invariant c.self.view_is c.deref-2.ensures.value some in
-    subst (λ m. AreShares hash m c.in_ok-shares.shares.items)
-    (ap (λ nodes. nodes_of (pairs nodes)) c.deref.ensures.value ∙ c.self.view_is) (c.in_ok-shares.ensures.each there)
+    grind (arith, nat_tests, common_steps, some_point hash _ _ _ _ c.self.invariant c.self.view_is c.deref-2.ensures.value some)
 
 pub returns-clause-all : goal.returns-clause-all
 returns-clause-all g c = λ some.

@@ -1,4 +1,4 @@
-use Rattle.hash_ring.proofs.Lemmas.{◌∙◌, ◌≤◌, ◌<◌, ◌+◌, ◌-◌, List, length, get_or, map, take, drop, sym, subst, arith, ◌++◌, get_or_default, Point, IsBefore, opened_up, AllPairs, IsPermutation, before_if_less, before_if_not_less, opened_in_order, IsMerged, all_in_order, all_merged, front_kept, last_other, left_more, placed, right_more}
+use Rattle.hash_ring.proofs.Lemmas.{◌∙◌, ◌≤◌, ◌<◌, ◌+◌, ◌-◌, List, length, get_or, map, take, drop, sym, subst, arith, ◌++◌, get_or_default, Point, IsBefore, opened_up, AllPairs, IsPermutation, before_if_less, before_if_not_less, opened_in_order, IsMerged, all_in_order, all_merged, front_kept, last_other, left_more, placed, right_more, rules}
 use Rattle.hash_ring.proofs.points.merge_backward.Goals as goal
 use Rattle.hash_ring.proofs.points.merge_backward.Goals.{else-right-gt0-via-then-right-gt0+else-lt, else-right-gt0-via-else-right-gt0}
 
@@ -22,10 +22,7 @@ loop-left-preserved-then-lt c =
           (opened_in_order c.args.index (take c.args.others old) c.requires.others_ordered) c.requires.added_ordered l.invariant.merged
           (omega arith)
           (get_or_default ys (l.right - 1) _ y (omega arith))
-          (λ d some. subst (λ (p : Point). IsBefore p y)
-          (c.opened_up-point.ensures
-          ∙ sym (last_other c.args.index c.args.others l.left old l.points _ d some l.invariant.within there l.invariant.front))
-          before));
+          (λ d some. search (rules, last_other)));
     }
 
 pub loop-left-preserved : goal.loop-left-preserved
@@ -38,11 +35,7 @@ loop-left-preserved c =
     let within : l.right ≤ length ys = l.invariant.merged.right_within in
     let there : c.args.others ≤ length old = omega (arith, c.requires.room) in
     let later : 0 < l.right → IsBefore (get_or ys (l.right - 1) (record { place = 0; node = 0 })) y = λ some.
-    elim c.else-right-gt0.branch [
-      | else-right-gt0-via-then-right-gt0+else-lt w ↦ before_if_not_less y (get_or ys (l.right - 1) (record { place = 0; node = 0 }))
-          (sym w.lt.ensures ∙ w.if-lt.false)
-      | else-right-gt0-via-else-right-gt0 w ↦ absurd (omega (arith, w.if-right-gt0.false))
-    ] in
+    search (rules, else-right-gt0-via-then-right-gt0+else-lt, before_if_not_less, else-right-gt0-via-else-right-gt0) in
     record {
       within = omega (arith, l.invariant.within);
       front = front_kept old l.points l.left (l.left - 1) (l.left - 1 + l.right) y (omega arith) (omega arith) l.invariant.front;

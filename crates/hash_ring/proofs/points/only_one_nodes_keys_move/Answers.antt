@@ -1,6 +1,6 @@
-use Rattle.hash_ring.proofs.Lemmas.{sym, subst, nodes_of, entries_are, absent, inserted, removed, moves_to, moves_from}
-use Rattle.hash_ring.specs.Ring.{MovesOnlyFrom, MovesOnlyTo}
-use Rattle.hash_ring.specs.Points.{IsGapAt, node_at}
+use Rattle.hash_ring.proofs.Lemmas.{sym, subst, nodes_of, entries_are, absent, inserted, removed, moves_to, moves_from, rules}
+use Rattle.hash_ring.specs.Ring.{MovesOnlyTo}
+use Rattle.hash_ring.specs.Points.{IsGapAt}
 use Rattle.hash_ring.proofs.points.only_one_nodes_keys_move.Goals as goal
 
 pub returns-clause-came : goal.returns-clause-came
@@ -12,6 +12,4 @@ returns-clause-came c = λ hash nodes points name weight index ring gap.
 
 pub returns-clause-went : goal.returns-clause-went
 returns-clause-went c = λ hash nodes points gone ring below.
-    let m = nodes_of nodes in
-    let less = removed nodes ring.named gone below in
-    (less, subst (λ n. MovesOnlyFrom hash m n (node_at nodes gone).0) (sym less) (moves_from hash m (node_at nodes gone).0))
+    search (rules, removed, moves_from)
