@@ -1,5 +1,5 @@
 -- What the proofs of this crate share of std, of the crates below and of its own definitions, passed on from one place.
-pub use Rattle.std.proofs.Common.{suc, zero, Some, ◌≢◌, ℕ, ◌+◌, ◌≤◌, true, false, List, [], ◌∷◌, ◌++◌, length, take, drop, map, ap, sym, ◌∙◌, refl, arith, length-append, inl, inr, cond, ◌||◌, All, get_or, fold, append-nil, append_assoc, take-append-drop, IsPermutation, bytes_eq, ◌⊎◌, Bool, not, ◌&&◌, None, replicate, Contains, subst, set, ◌*◌, eqb, w8, ◌==◌, rules, ◌-◌, ◌/◌, ◌<◌, ◌≡◌}
+pub use Rattle.std.proofs.Common.{suc, zero, Some, ◌≢◌, ℕ, ◌+◌, ◌≤◌, true, false, List, [], ◌∷◌, ◌++◌, length, take, drop, map, ap, sym, ◌∙◌, refl, arith, length-append, inl, inr, cond, ◌||◌, All, get_or, fold, append-nil, append_assoc, take-append-drop, IsPermutation, bytes_eq, ◌⊎◌, Bool, not, ◌&&◌, None, replicate, Contains, subst, set, ◌*◌, eqb, w8, ◌==◌, rules, ◌-◌, ◌/◌, ◌<◌, ◌≡◌, sum_by, Option, Ordering, Less, Equal, Greater}
 pub use Rattle.std.proofs.lemmas.Bool.{cases_Bool, cond_both, or_parts, cases_eq, both_ways, false_from_ne_true, not-true, not-false, and_parts, and_left, cases_lt, eqb-false, eqb-true}
 pub use Rattle.std.proofs.lemmas.Bool.Decides.{nat_tests}
 pub use Rattle.std.proofs.lemmas.Grind.{common_steps, flat_map-append, elements}
@@ -19,7 +19,7 @@ pub use Rattle.text_set.specs.Store.{Rises, cut}
 pub use Rattle.text_set.specs.Texts.{EachOnce, StandsAt, has, with_text}
 pub use Rattle.text_set.specs.declared.slots.Slot.{Slot}
 pub use Rattle.text_set.specs.declared.slots.TheConstants.{EMPTY, NOWHERE}
-pub use Rattle.std.proofs.lemmas.List.Sorted.{IsPermutation-cons, IsPermutation-refl, IsPermutation-remove, IsPermutation-sym, IsPermutation-trans, list_any-IsPermutation}
+pub use Rattle.std.proofs.lemmas.List.Sorted.{IsPermutation-cons, IsPermutation-refl, IsPermutation-remove, IsPermutation-sym, IsPermutation-trans, list_any-IsPermutation, sum_by-IsPermutation}
 pub use Rattle.std.proofs.lemmas.Map.Keys.{IsDistinct-IsPermutation, IsDistinct-from_apart, IsDistinct-head, IsDistinct-tail}
 pub use Rattle.std.proofs.lemmas.Cmp.{nat_list_eq_equiv}
 pub use Rattle.std.proofs.Math.Seq.{get_or-append_seam}

@@ -82,11 +82,7 @@ module _ (eol : ℕ) where
   -- a line that was read to where it stops
   pub texts_of_line : (line more : List ℕ) → StopsAt line eol → ends_with_byte eol line ≡ true
       → line_texts eol (line ++ more) ≡ strip_last eol line ∷ line_texts eol more
-  texts_of_line line more stops ends =
-      let end : IsLineEnd eol line (Some (length line - 1)) =
-      (grind (arith, nat_tests), grind (arith, nat_tests), λ k less. grind (arith, nat_tests, common_steps, stops k 0)) in
-      rw (texts_of_lines (line ++ more), first_line line more (length line - 1) end, texts_of_lines more)
-      (grind (arith, nat_tests, common_steps))
+  texts_of_line line more stops ends = grind (arith, nat_tests, common_steps, texts_of_lines, first_line)
 
   pub text_of_line : (line : List ℕ) → StopsAt line eol → 0 < length line → line_texts eol line ≡ strip_last eol line ∷ []
   text_of_line line stops some = elim (cases_Bool (ends_with_byte eol line)) [

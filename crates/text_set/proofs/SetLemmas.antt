@@ -1,5 +1,5 @@
 -- The texts of a set that takes in texts one after the other: which those are, each once, in whatever order they come.
-use Rattle.text_set.proofs.Common.{◌≢◌, ℕ, ◌+◌, true, false, cond, ◌||◌, All, List, [], ◌∷◌, ◌++◌, length, get_or, take, drop, map, fold, ap, sym, ◌∙◌, refl, append-nil, append_assoc, arith, inl, inr, take-append-drop, IsPermutation, bytes_eq, AllByRecursion, IsDistinct, remove, cases_Bool, cond_both, or_parts, nat_tests, common_steps, flat_map-append, map-append, All-head, All-tail, All-push, All-nil, All-from_recursion, recursion_from_All, list_any-append, list_any_none, Any-from_list_any, list_any_at, fold-append, bytes_eq-Decides, strip_last, line_texts, lines_by, EachOnce, StandsAt, has, with_text, ◌≡◌, nat_list_eq_equiv, IsPermutation-cons, IsPermutation-refl, IsPermutation-sym, IsPermutation-remove, IsPermutation-trans, list_any-IsPermutation, IsDistinct-IsPermutation, IsDistinct-from_apart, IsDistinct-head, IsDistinct-tail}
+use Rattle.text_set.proofs.Common.{◌≢◌, ℕ, true, false, cond, ◌||◌, All, List, [], ◌∷◌, ◌++◌, length, get_or, take, drop, map, fold, ap, sym, ◌∙◌, refl, append-nil, append_assoc, arith, inl, inr, take-append-drop, IsPermutation, bytes_eq, AllByRecursion, IsDistinct, remove, cases_Bool, cond_both, nat_tests, common_steps, flat_map-append, map-append, All-head, All-tail, All-push, All-nil, All-from_recursion, recursion_from_All, list_any-append, list_any_none, Any-from_list_any, list_any_at, fold-append, bytes_eq-Decides, strip_last, line_texts, lines_by, EachOnce, StandsAt, has, with_text, ◌≡◌, nat_list_eq_equiv, IsPermutation-cons, IsPermutation-refl, IsPermutation-sym, IsPermutation-remove, IsPermutation-trans, list_any-IsPermutation, IsDistinct-IsPermutation, IsDistinct-from_apart, IsDistinct-head, IsDistinct-tail}
 use Rattle.text_set.specs.Firsts.{ComesBefore, as_lines, each_once_by, firsts_by, once_by}
 use Rattle.text_set.proofs.LineLemmas.{texts_of_lines}
 
@@ -47,9 +47,7 @@ nothing_added texts (text ∷ more) there =
 -- what is taken in later stands behind
 pub fold_begins : (texts more : List (List ℕ)) → (rest : List (List ℕ)) × (fold with_text texts more ≡ texts ++ rest)
 fold_begins texts [] = ([], sym (append-nil texts))
-fold_begins texts (text ∷ more) =
-    let (rest, is) = fold_begins (with_text texts text) more in
-    (cond (has texts text) rest (text ∷ rest), grind (arith, common_steps, is))
+fold_begins texts (text ∷ more) = grind (arith, nat_tests, common_steps, fold_begins (with_text texts text) more)
 
 -- a set of such texts takes in such texts
 set_has : (P : List ℕ → Type 0) (texts more : List (List ℕ)) → All P texts → All P more → All P (fold with_text texts more)
@@ -70,12 +68,8 @@ firsts_before texts text other (before, after, is, none) =
     elim (cases_Bool (has set text)) [
       | inl there ↦
           let (k, x, below, at, eq) = Any-from_list_any (bytes_eq text) set there in
-          let it : get_or set k x ≡ text = grind (arith, bytes_eq-Decides) in (
-            take k set,
-            drop (k + 1) set ++ rest,
-            grind (arith, common_steps, whole),
-            (or_parts _ _ (sym (list_any-append (bytes_eq other) (take k set) (drop k set)) ∙ rw (take-append-drop k set) absent)).0,
-          )
+          let it : get_or set k x ≡ text = grind (arith, bytes_eq-Decides) in
+          grind (arith, nat_tests, common_steps, list_any-append (bytes_eq other) (take k set) (drop k set), take-append-drop k set)
       | inr new ↦ (set, rest, grind (arith, common_steps, whole), absent)
     ]
 

@@ -1,20 +1,11 @@
 -- Tables of slots: what a search finds, and what a slot more changes.
-use Rattle.text_set.proofs.Common.{ℕ, zero, suc, ◌+◌, ◌≤◌, ◌⊎◌, inl, inr, Bool, true, false, not, cond, ◌&&◌, ◌||◌, Some, None, List, [], ◌∷◌, ◌++◌, length, get_or, take, replicate, All, Contains, arith, sym, ap, ◌∙◌, subst, refl, length-append, bytes_eq, set, count_by, list_any, cases_eq, both_ways, false_from_ne_true, not-true, not-false, or_parts, and_parts, and_left, length-set, get_or-set_same, get_or-set_other, get_or_default, get_or_append_left, All-set, All-contains, All-replicate, All-tail, All-head, list_any_none, list_any_more, Any-from_list_any, sum_by-replicate, sum_by-cons, sum_by-set, bytes_eq-Decides, common_steps, elements, nat_tests, StandsAt, has, with_text, Slot, EMPTY, NOWHERE, AreFound, AreTakenUpTo, FirstRound, HoldsUpTo, IsRefilled, IsTable, IsTagged, Names, free_count, home_of, is_taken, some_taken, stops, text_of, ◌≡◌, ◌-◌, ◌<◌, get_or-append_seam}
+use Rattle.text_set.proofs.Common.{ℕ, zero, suc, ◌+◌, ◌≤◌, ◌⊎◌, Bool, true, false, not, cond, ◌&&◌, ◌||◌, Some, None, List, [], ◌∷◌, ◌++◌, length, get_or, take, replicate, All, Contains, arith, sym, ap, ◌∙◌, subst, refl, length-append, bytes_eq, set, count_by, list_any, cases_eq, both_ways, false_from_ne_true, not-true, not-false, or_parts, and_parts, and_left, length-set, get_or-set_same, get_or-set_other, get_or_default, get_or_append_left, All-set, All-replicate, All-tail, All-head, list_any_none, list_any_more, Any-from_list_any, sum_by-replicate, sum_by-cons, sum_by-set, bytes_eq-Decides, common_steps, nat_tests, StandsAt, has, with_text, Slot, EMPTY, NOWHERE, AreFound, AreTakenUpTo, FirstRound, HoldsUpTo, IsRefilled, IsTable, free_count, home_of, is_taken, some_taken, stops, text_of, ◌≡◌, ◌-◌, ◌<◌, get_or-append_seam}
 use Rattle.text_set.proofs.SetLemmas.{has_more}
 
 -- ---- places, round from a home
 
 pub up_to_weaker : (P Q : ℕ → Type 0) (n home place : ℕ) → ((j : ℕ) → P j → Q j) → HoldsUpTo P n home place → HoldsUpTo Q n home place
-up_to_weaker P Q n home place more before = record {
-  near = λ j from below. more j (before.near j from below);
-  to_the_end = λ turns j from below. more j (before.to_the_end turns j from below);
-  from_the_start = λ turns j below. more j (before.from_the_start turns j below);
-}
-
--- of two places round from one home, one comes first
-one_comes_first : (P Q : ℕ → Type 0) (n home i k : ℕ) → HoldsUpTo P n home i → HoldsUpTo Q n home k → i < n → k < n → (k ≡ i) ⊎ (P k ⊎ Q i)
-one_comes_first P Q n home i k p q i_in k_in =
-    grind (arith, p.near k, p.to_the_end, p.from_the_start, q.near i, q.to_the_end, q.from_the_start)
+up_to_weaker P Q n home place more before = grind arith
 
 -- ---- a slot more
 
@@ -32,15 +23,7 @@ any_same p q (x ∷ xs) same = grind (arith, All-head (λ x. p x ≡ q x) x xs s
 pub found_more : (slots : List Slot) (place : ℕ) (slot : Slot) → AreFound slots → place < length slots → is_taken slot ≡ true
     → AreTakenUpTo slots slot.tag place → AreFound (set slots place slot)
 found_more slots place slot found within taken before = λ i below is.
-    let stays : (j : ℕ) → is_taken (get_or slots j EMPTY) ≡ true → is_taken (get_or (set slots place slot) j EMPTY) ≡ true =
-    λ j is. grind (arith, elements) in
-    let all = up_to_weaker (λ j. is_taken (get_or slots j EMPTY) ≡ true) (λ j. is_taken (get_or (set slots place slot) j EMPTY) ≡ true)
-    (length slots) (home_of (length slots) (get_or (set slots place slot) i EMPTY).tag) i stays in
-    rw (length-set slots place slot) (elim (cases_eq i place) [
-      | inl same ↦ all (rw (same, get_or-set_same slots place slot EMPTY within) before)
-      | inr other ↦ all (rw (get_or-set_other slots place i slot EMPTY other) (found i (omega (arith, below, length-set slots place slot))
-          (rw (get_or-set_other slots place i slot EMPTY other) at is)))
-    ])
+    grind (arith, up_to_weaker, length-set, cases_eq, get_or-set_same, get_or-set_other)
 
 -- there is one free slot less
 pub free_less : (slots : List Slot) (place : ℕ) (slot : Slot) → place < length slots → is_taken (get_or slots place EMPTY) ≡ false
@@ -74,12 +57,7 @@ stops_somewhere : (tag : List ℕ → ℕ) (texts : List (List ℕ)) (slots : Li
     → list_any (λ s. is_taken s && bytes_eq text (text_of texts s)) slots ≡ true
     → (k : ℕ) × (k < length slots) × (is_taken (get_or slots k EMPTY) ≡ true) × ((get_or slots k EMPTY).tag ≡ tag text)
     × (stops texts (tag text) text (get_or slots k EMPTY) ≡ true)
-stops_somewhere tag texts slots room table text there =
-    let (k, d, below, is, passes) = Any-from_list_any (λ s. is_taken s && bytes_eq text (text_of texts s)) slots there in
-    let it : get_or slots k EMPTY ≡ d = get_or_default slots k EMPTY d below ∙ is in
-    let (taken, same) = and_parts _ _ (ap (λ s. is_taken s && bytes_eq text (text_of texts s)) it ∙ passes) in
-    let tagged = table.tagged k EMPTY below taken ∙ ap tag (sym ((bytes_eq-Decides text (text_of texts (get_or slots k EMPTY))).0 same)) in
-    (k, below, taken, tagged, grind (arith, nat_tests, taken, same, tagged))
+stops_somewhere tag texts slots room table text there = grind (arith, Any-from_list_any, get_or_default, and_parts, bytes_eq-Decides)
 
 module _ {tag : List ℕ → ℕ} {texts : List (List ℕ)} {slots : List Slot} {room : ℕ} (table : IsTable tag texts slots room)
     (text : List ℕ) {place : ℕ}
@@ -90,21 +68,14 @@ module _ {tag : List ℕ → ℕ} {texts : List (List ℕ)} {slots : List Slot} 
 
   -- a search that ends at a slot with a text has found it
   pub stands_there : true ≡ is_taken slot → StandsAt texts text slot.place
-  stands_there taken =
-      let named = table.named place EMPTY first.0 in
-      grind (arith, at_place, first.1, named, bytes_eq-Decides text (text_of texts slot))
+  stands_there taken = grind (arith, at_place, bytes_eq-Decides)
 
   -- a search that ends at a free slot has passed no slot with the text, and there is none after it
   pub has_not_found : false ≡ is_taken slot → has texts text ≡ false
   has_not_found free =
       table.holds text ∙ false_from_ne_true _
       (λ somewhere.
-      let (k, below, taken, tagged, ends) = stops_somewhere tag texts slots room table text somewhere in
-      let found : AreTakenUpTo slots (tag text) k = subst (λ t. AreTakenUpTo slots t k) tagged (table.found k below taken) in
-      let first_of_two = one_comes_first (λ j. stops texts (tag text) text (get_or slots j EMPTY) ≡ false)
-      (λ j. is_taken (get_or slots j EMPTY) ≡ true) (length slots)
-      (home_of (length slots) (tag text)) place k first.2 found first.0 below in
-      grind (arith, first_of_two, at_place, taken, ends))
+      grind (arith, stops_somewhere tag texts slots room table text somewhere, at_place))
 
 -- a search that ends nowhere has passed no slot with the text
 pub has_nowhere : {tag : List ℕ → ℕ} {texts : List (List ℕ)} {slots : List Slot} {room : ℕ} (text : List ℕ)
@@ -132,27 +103,12 @@ module _ (tag : List ℕ → ℕ) (texts : List (List ℕ)) (slots : List Slot) 
   -- the table has the text, and those that it had
   holds_put : (other : List ℕ)
       → has (texts ++ text ∷ []) other ≡ some_taken (λ s. bytes_eq other (text_of (texts ++ text ∷ []) s)) (set slots place slot)
-  holds_put other =
-      let same = any_same (λ s. is_taken s && bytes_eq other (text_of (texts ++ text ∷ []) s))
-      (λ s. is_taken s && bytes_eq other (text_of texts s)) slots
-      (λ k d below. grind (arith, table.named k d below, text_stays texts text (get_or slots k d))) in
-      grind (
-        arith,
-        has_more texts text other,
-        table.holds other,
-        same,
-        its_text,
-        some_more (λ s. bytes_eq other (text_of (texts ++ text ∷ []) s)) slots place slot within free taken,
-      )
+  holds_put other = grind (arith, any_same, text_stays, has_more, its_text, some_more)
 
   pub table_put : AreTakenUpTo slots (tag text) place → IsTable tag (texts ++ text ∷ []) (set slots place slot) (room - 1)
   table_put before = record {
-    named = All-set (Names (texts ++ text ∷ [])) slots place slot
-        (λ _. grind (arith, common_steps, is))
-        (λ k d below there_is. omega (arith, table.named k d below there_is, length-append texts (text ∷ [])));
-    tagged = All-set (IsTagged tag (texts ++ text ∷ [])) slots place slot
-        (λ _. grind (arith, is, its_text))
-        (λ k d below there_is. grind (arith, table.tagged k d below there_is, text_stays texts text (get_or slots k d) (table.named k d below there_is)));
+    named = grind (arith, nat_tests, common_steps);
+    tagged = grind (arith, nat_tests, common_steps);
     holds = holds_put;
     found = found_more slots place slot table.found within taken
         (subst (λ t. AreTakenUpTo slots t place) (sym (ap (λ s. s.tag) is)) before);
@@ -163,14 +119,7 @@ module _ (tag : List ℕ → ℕ) (texts : List (List ℕ)) (slots : List Slot) 
 
 pub table_kept : (tag : List ℕ → ℕ) (texts : List (List ℕ)) (slots more : List Slot) (old room : ℕ) → IsTable tag texts slots old
     → IsRefilled slots room more → IsTable tag texts more room
-table_kept tag texts slots more old room table refilled = record {
-  named = λ k d below there_is. All-contains (Names texts) slots (get_or more k d) table.named (refilled.among k d below there_is) there_is;
-  tagged = λ k d below there_is. All-contains (IsTagged tag texts) slots (get_or more k d) table.tagged
-      (refilled.among k d below there_is) there_is;
-  holds = λ other. table.holds other ∙ sym (refilled.kept (λ s. bytes_eq other (text_of texts s)));
-  found = refilled.found;
-  roomy = refilled.roomy;
-}
+table_kept tag texts slots more old room table refilled = grind arith
 
 -- the first of the slots are in a larger table
 pub record Refilling (slots : List Slot) (done count : ℕ) (more : List Slot) : Type 0 where
@@ -180,24 +129,12 @@ pub record Refilling (slots : List Slot) (done count : ℕ) (more : List Slot) :
   pub among : All (λ slot. is_taken slot ≡ true → Contains slots slot) more
 
 pub refilling_start : (slots : List Slot) (count : ℕ) → Refilling slots 0 count (replicate count EMPTY)
-refilling_start slots count =
-    let empty = All-replicate (λ s. is_taken s ≡ false) count EMPTY refl in
-    record {
-      found = λ i below is. absurd (both_ways _ (empty i EMPTY below) is);
-      roomy = omega (arith, sum_by-replicate (λ s. cond (not (is_taken s)) 1 0) count EMPTY);
-      kept = λ test. list_any_none (λ s. is_taken s && test s) (replicate count EMPTY) (λ k d below. and_left _ _ (empty k d below));
-      among = λ k d below is. absurd (both_ways _ (empty k d below) is);
-    }
+refilling_start slots count = grind (arith, nat_tests, common_steps, All-replicate, both_ways, sum_by-replicate, list_any_none, and_left)
 
 module _ (slots : List Slot) (done count : ℕ) (more : List Slot) (before : Refilling slots done count more) (slot d : Slot)
     (below : done < length slots) (is : get_or slots done d ≡ slot) where
   pub refilling_past : is_taken slot ≡ false → Refilling slots (done + 1) count more
-  refilling_past free = record {
-    found = before.found;
-    roomy = omega (arith, before.roomy);
-    kept = λ test. grind (arith, before.kept test, list_any_more (λ s. is_taken s && test s) slots done d below);
-    among = before.among;
-  }
+  refilling_past free = grind (arith, nat_tests, common_steps)
 
   pub refilling_put : (place : ℕ) → is_taken slot ≡ true
       → FirstRound (λ s. not (is_taken s)) more (home_of (length more) slot.tag) (Some place)
@@ -205,16 +142,9 @@ module _ (slots : List Slot) (done count : ℕ) (more : List Slot) (before : Ref
   refilling_put place taken (within, free, passed) =
       let is_free : is_taken (get_or more place EMPTY) ≡ false = not-true _ free in
       record {
-        found = found_more more place slot before.found within taken
-            (up_to_weaker (λ j. not (is_taken (get_or more j EMPTY)) ≡ false) (λ j. is_taken (get_or more j EMPTY) ≡ true) (length more)
-            (home_of (length more) slot.tag) place (λ j is. not-false _ is) passed);
+        found = grind (arith, found_more, up_to_weaker, not-false);
         roomy = omega (arith, before.roomy, free_less more place slot within is_free taken);
-        kept = λ test. grind (
-          arith,
-          some_more test more place slot within is_free taken,
-          before.kept test,
-          list_any_more (λ s. is_taken s && test s) slots done d below,
-        );
+        kept = grind (arith, nat_tests, common_steps, some_more, list_any_more);
         among = All-set (λ s. is_taken s ≡ true → Contains slots s) more place slot
             (λ _. (done, below, get_or_default slots done slot d below ∙ is)) before.among;
       }

@@ -1,12 +1,9 @@
 -- What a map from texts to numbers answers, one change after another.
-use Rattle.std.proofs.Common.{ℕ, zero, suc, ◌≡◌, ◌≢◌, ◌+◌, ◌≤◌, Bool, true, false, cond, List, [], ◌∷◌, sum_by, Option, Some, None, arith, sym, ap, ◌∙◌, subst, refl, All, IsPermutation, Ordering, Less, Equal, Greater}
+use Rattle.text_set.proofs.Common.{ℕ, zero, suc, ◌≡◌, ◌≢◌, ◌+◌, ◌≤◌, Bool, true, false, cond, List, [], ◌∷◌, sum_by, Option, Some, None, arith, sym, ap, ◌∙◌, subst, refl, All, IsPermutation, Ordering, Less, Equal, Greater, All-head, All-tail, sum_by-IsPermutation, sum_by-cons}
 use Rattle.std.specs.Ordering.{nat_cmp, eq_by_cmp, is_eq}
 use Rattle.std.specs.Cmp.{eq_by_cmp_equiv}
 use Rattle.std.specs.Cmp.Lexicographic.{slice_cmp, nat_list_cmp_total}
 use Rattle.std.specs.FinMap.{get, insert, remove, get-insert, get-remove, same_map, slice_cmp-IsAntisymmetric, nat_cmp-IsAntisymmetric}
-use Rattle.std.proofs.lemmas.List.Elements.{All-head, All-tail}
-use Rattle.std.proofs.lemmas.List.Sorted.{sum_by-IsPermutation}
-use Rattle.std.proofs.lemmas.List.Sums.{sum_by-cons}
 use Rattle.text_set.specs.TextMaps.{TextMap, InsertsCommute, KeysDiffer, OthersStay, with_all}
 
 abbrev pub same : List ℕ → List ℕ → Bool
@@ -54,46 +51,25 @@ get_remove_other m k q apart = get_remove m k q ∙ ap (λ b. cond b None (get m
 -- at each key the later of two inserts of different keys may as well be the earlier
 at_each : (m : TextMap) (k q : List ℕ) (v w : ℕ) → k ≢ q → (x : List ℕ)
     → cond (same x q) (Some w) (cond (same x k) (Some v) (get m x)) ≡ cond (same x k) (Some v) (cond (same x q) (Some w) (get m x))
-at_each m k q v w apart x =
-    elim (same x k) as (λ b. same x k ≡ b → cond (same x q) (Some w) (cond b (Some v) (get m x))
-    ≡ cond b (Some v) (cond (same x q) (Some w) (get m x))) [
-      | true ↦ λ e. ap (λ b. cond b (Some w) (Some v)) (not_same x q (λ is. apart (sym (same_key x k e) ∙ is)))
-      | false ↦ λ e. refl
-    ] refl
+at_each m k q v w apart x = grind (arith, not_same, same_key)
 
 pub inserts_commute : (m : TextMap) (k q : List ℕ) (v w : ℕ) → k ≢ q → InsertsCommute m k v q w
-inserts_commute m k q v w apart =
-    alike _ _
-    (λ x. get_insert (insert m k v) q x w ∙ ap (cond (same x q) (Some w)) (get_insert m k x v)
-    ∙ at_each m k q v w apart x
-    ∙ sym (get_insert (insert m q w) k x v ∙ ap (cond (same x k) (Some v)) (get_insert m q x w)))
+inserts_commute m k q v w apart = grind (arith, alike, get_insert, at_each)
 
 pub removal_undoes_insert : (m : TextMap) (k : List ℕ) (v : ℕ) → get m k ≡ None → remove (insert m k v) k ≡ m
 removal_undoes_insert m k v none =
     alike _ _
-    (λ q. get_remove (insert m k v) k q ∙ ap (cond (same q k) None) (get_insert m k q v)
-    ∙ elim (same q k) as (λ b. same q k ≡ b → cond b None (cond b (Some v) (get m q)) ≡ get m q) [
-      | true ↦ λ e. sym (ap (get m) (same_key q k e) ∙ none)
-      | false ↦ λ e. refl
-    ] refl)
+    (λ q. grind (arith, get_remove, get_insert, same_key))
 
 pub old_value_undoes_insert : (m : TextMap) (k : List ℕ) (v w : ℕ) → get m k ≡ Some w → insert (insert m k v) k w ≡ m
 old_value_undoes_insert m k v w had =
     alike _ _
-    (λ q. get_insert (insert m k v) k q w ∙ ap (cond (same q k) (Some w)) (get_insert m k q v)
-    ∙ elim (same q k) as (λ b. same q k ≡ b → cond b (Some w) (cond b (Some v) (get m q)) ≡ get m q) [
-      | true ↦ λ e. sym (ap (get m) (same_key q k e) ∙ had)
-      | false ↦ λ e. refl
-    ] refl)
+    (λ q. grind (arith, get_insert, same_key))
 
 pub removal_of_nothing : (m : TextMap) (k : List ℕ) → get m k ≡ None → remove m k ≡ m
 removal_of_nothing m k none =
     alike _ _
-    (λ q. get_remove m k q
-    ∙ elim (same q k) as (λ b. same q k ≡ b → cond b None (get m q) ≡ get m q) [
-      | true ↦ λ e. sym (ap (get m) (same_key q k e) ∙ none)
-      | false ↦ λ e. refl
-    ] refl)
+    (λ q. grind (arith, get_remove, same_key))
 
 -- ---- many inserts, in any order
 -- how many of the keys are q, and what is put in at them, one too high: a sum does not see an order
@@ -110,9 +86,7 @@ nothing_put q (x ∷ xs) none =
     ∙ elim (same q x.0) as (λ b. cond b 1 0 + sum_by (is_at q) xs ≡ 0 → cond b (suc x.1) 0 + sum_by (put_at q) xs ≡ 0) [
       | true ↦ λ e. let some : 1 + sum_by (is_at q) xs ≡ 0 = e in absurd (omega (arith, some))
       | false ↦ λ e. let rest : 0 + sum_by (is_at q) xs ≡ 0 = e in
-          let nothing : sum_by (put_at q) xs ≡ 0 = nothing_put q xs (omega (arith, rest)) in
-          let is : 0 + sum_by (put_at q) xs ≡ 0 = omega (arith, nothing) in
-          is
+          cc (nothing_put q xs (omega (arith, rest)))
     ] (sym (sum_by-cons (is_at q) x xs) ∙ none)
 
 told : ℕ → Option ℕ → Option ℕ
@@ -130,17 +104,10 @@ get_with_all m (x ∷ xs) q once =
       | true ↦ λ e only.
           let one : 1 + sum_by (is_at q) xs ≤ 1 = only in
           let none : left ≡ 0 = nothing_put q xs (omega (arith, one)) in
-          let put : suc x.1 ≡ suc x.1 + left = omega (arith, none) in
-          get_with_all (insert m x.0 x.1) xs q (omega (arith, one))
-          ∙ ap (λ s. told s (get (insert m x.0 x.1) q)) none
-          ∙ get_insert m x.0 q x.1 ∙ ap (λ b. cond b (Some x.1) (get m q)) e
-          ∙ ap (λ s. told s (get m q)) put
+          grind (arith, get_with_all (insert m x.0 x.1) xs q (omega (arith, one)), get_insert m x.0 q x.1)
       | false ↦ λ e only.
           let one : 0 + sum_by (is_at q) xs ≤ 1 = only in
-          let put : left ≡ 0 + left = omega arith in
-          get_with_all (insert m x.0 x.1) xs q (omega (arith, one))
-          ∙ ap (told left) (get_insert m x.0 q x.1 ∙ ap (λ b. cond b (Some x.1) (get m q)) e)
-          ∙ ap (λ s. told s (get m q)) put
+          grind (arith, get_with_all (insert m x.0 x.1) xs q (omega (arith, one)), told left, get_insert m x.0 q x.1)
     ] refl (subst (λ s. s ≤ 1) (sum_by-cons (is_at q) x xs) once)
     ∙ ap (λ s. told s (get m q)) (sym (sum_by-cons (put_at q) x xs))
 
@@ -161,17 +128,10 @@ once_at q (x ∷ xs) differ =
     subst (λ s. s ≤ 1) (sym (sum_by-cons (is_at q) x xs))
     (elim (same q x.0) as (λ b. same q x.0 ≡ b → cond b 1 0 + sum_by (is_at q) xs ≤ 1) [
       | true ↦ λ e.
-          let none : sum_by (is_at q) xs ≡ 0 = none_is q x.0 xs (same_key q x.0 e) later in
-          let one : 1 + sum_by (is_at q) xs ≤ 1 = omega (arith, none) in
-          one
+          omega (arith, none_is q x.0 xs (same_key q x.0 e) later, same_key q x.0 e)
       | false ↦ λ e. let one : 0 + sum_by (is_at q) xs ≤ 1 = omega (arith, rest) in one
     ] refl)
 
 pub order_does_not_show : (m : TextMap) (xs ys : List (List ℕ × ℕ)) → KeysDiffer xs → IsPermutation xs ys
     → with_all m xs ≡ with_all m ys
-order_does_not_show m xs ys differ moved =
-    alike _ _
-    (λ q. let once : sum_by (is_at q) xs ≤ 1 = once_at q xs differ in
-    get_with_all m xs q once
-    ∙ ap (λ s. told s (get m q)) (sym (sum_by-IsPermutation (put_at q) xs ys moved))
-    ∙ sym (get_with_all m ys q (omega (arith, once, sum_by-IsPermutation (is_at q) xs ys moved))))
+order_does_not_show m xs ys differ moved = grind (arith, alike, once_at, get_with_all, told, sum_by-IsPermutation)

@@ -1,18 +1,13 @@
-use Rattle.text_set.proofs.Common.{arith, sym, refl, replicate, length, get_or, common_steps, Slot, EMPTY, ◌≡◌, ◌<◌}
+use Rattle.text_set.proofs.Common.{arith, sym, refl, length, get_or, Slot, ◌<◌}
 use Rattle.text_set.proofs.SlotLemmas.{none_free, refilling_past, refilling_put, refilling_start}
 use Rattle.text_set.proofs.slots.refilled.Goals.{then-is_taken+in-Some, else-is_taken}
 use Rattle.text_set.proofs.slots.refilled.Goals as goal
 
 pub loop-slot-init : goal.loop-slot-init
-loop-slot-init c =
-    let empty : c.resize.new.self.items ≡ replicate c.args.count EMPTY =
-    grind (arith, common_steps, c.in_ok-resize.ensures.items, c.new-more.ensures.items, c.new-more.ensures.len) in
-    rw empty (refilling_start c.args.slots.now c.args.count)
+loop-slot-init c = grind (arith, refilling_start c.args.slots.now c.args.count)
 
 pub unreachable-requires : goal.unreachable-requires
-unreachable-requires c =
-    let none = none_free c.loop-slot.more.items (rw c.deref.ensures.value at c.in-None.ensures) in
-    omega (arith, c.loop-slot.invariant.roomy, none)
+unreachable-requires c = grind (arith, none_free)
 
 pub loop-slot-preserved : goal.loop-slot-preserved
 loop-slot-preserved c =

@@ -1,4 +1,4 @@
-use Rattle.text_set.proofs.Common.{List, ℕ, length, arith, ap, sym, ◌∙◌, get_or_default, cut, ◌≡◌, ◌<◌}
+use Rattle.text_set.proofs.Common.{List, ℕ, length, arith, ap, get_or_default, cut, ◌≡◌, ◌<◌}
 use Rattle.text_set.proofs.StoreLemmas.{cut_at, length_cut, within}
 use Rattle.text_set.proofs.store.Store.get.Goals as goal
 
@@ -14,18 +14,7 @@ pub index-end-requires : goal.index-end-requires
 index-end-requires c = omega (arith, place_in _ _ _ _ c.self.view_is c.requires, c.self.inside.ends.ok.0)
 
 pub text_between-requires : goal.text_between-requires
-text_between-requires c =
-    let below = place_in _ _ _ _ c.self.view_is c.requires in
-    let inside = within 0 c.self.inside.ends.items _ c.args.place c.self.invariant below in
-    let end = c.index-end.ensures ∙ get_or_default _ _ _ 0 below in
-    record {
-      rises = rw (end, c.start_of-start.ensures, c.deref.ensures.value) inside.0;
-      within = rw (end, c.deref-2.ensures.value) inside.1;
-    }
+text_between-requires c = grind (arith, place_in, within, get_or_default)
 
 pub returns : goal.returns
-returns c =
-    let below = place_in _ _ _ _ c.self.view_is c.requires in
-    let end = c.index-end.ensures ∙ get_or_default _ _ _ 0 below in
-    rw (c.text_between.ensures, c.deref-2.ensures.value, end, c.start_of-start.ensures, c.deref.ensures.value, ← c.self.view_is)
-    (sym (cut_at 0 c.self.inside.bytes.items c.self.inside.ends.items c.args.place below))
+returns c = grind (arith, place_in, get_or_default, cut_at)

@@ -1,29 +1,17 @@
-use Rattle.text_set.proofs.Common.{not, arith, sym, refl, ap}
-use Rattle.text_set.proofs.SetLemmas.{has_there, once_more}
-use Rattle.text_set.proofs.SlotLemmas.{has_not_found, none_stops, slot_made, stands_behind, stands_there, table_kept, table_more, with_new, with_old}
+use Rattle.text_set.proofs.Common.{arith, nat_tests, common_steps}
+use Rattle.text_set.proofs.SetLemmas.{once_more}
+use Rattle.text_set.proofs.SlotLemmas.{has_not_found, none_stops, slot_made, stands_behind, stands_there, table_kept, table_more, with_new}
 use Rattle.text_set.proofs.texts.Texts.see_tagged.Goals as goal
 
 pub unreachable-requires : goal.unreachable-requires
-unreachable-requires g c =
-    let made = c.in_ok-make_room.ensures in
-    let full = none_stops c.self.inside.texts c.args.text.now c.deref.result.now c.args.tag c.in_default.ensures in
-    omega (arith, made.refilled.roomy, made.some, rw c.deref.ensures.value at full)
+unreachable-requires g c = grind (arith, none_stops)
 
 pub returns-then-is_taken : goal.returns-then-is_taken
 returns-then-is_taken g c =
     let table = table_kept _ _ _ _ _ _ c.self.invariant.1 c.in_ok-make_room.ensures.refilled in
     let tagged = rw (← c.self.view_is) at c.requires in
     let first = rw (c.deref.ensures.value, tagged) at c.in-Some.ensures in
-    let stands = stands_there table c.args.text.now first c.index-found.ensures c.if-is_taken.ensures in
-    let there = has_there c.self.inside.texts c.args.text.now _ stands in
-    rw (← c.self.view_is) record {
-      new = sym (ap not there);
-      texts = sym (with_old c.self.inside.texts c.args.text.now there);
-      place = stands;
-      hasher = refl;
-      kept = tt;
-      full = tt;
-    }
+    grind (arith, nat_tests, common_steps, stands_there table c.args.text.now first c.index-found.ensures c.if-is_taken.ensures)
 
 pub invariant_of-self-2 : goal.invariant_of-self-2
 invariant_of-self-2 g c =
@@ -43,11 +31,4 @@ returns g c =
     let tagged = rw (← c.self.view_is) at c.requires in
     let first = rw (c.deref.ensures.value, tagged) at c.in-Some.ensures in
     let absent = has_not_found table c.args.text.now first c.index-found.ensures c.if-is_taken.ensures in
-    rw (← c.self.view_is, c.in_ok-push.ensures.ok) record {
-      new = sym (ap not absent);
-      texts = sym (with_new c.self.inside.texts c.args.text.now absent);
-      place = rw c.len-place.ensures.value (stands_behind c.self.inside.texts c.args.text.now);
-      hasher = refl;
-      kept = tt;
-      full = tt;
-    }
+    grind (arith, with_new c.self.inside.texts c.args.text.now absent, stands_behind c.self.inside.texts c.args.text.now)
