@@ -1,5 +1,5 @@
 -- A filter's file, piece by piece.
-use Rattle.hash_bloom.proofs.Common.{◌≡◌, ℕ, suc, ◌+◌, ◌*◌, ◌<◌, ◌^◌, ◌≤◌, List, [], ◌∷◌, ◌++◌, length, take, drop, get_or, Option, Some, None, refl, sym, ap, ◌∙◌, subst, append_assoc, arith, codes, take-append-drop, Appends, Consumes, flat_map-append, append_cancel_left, append_cancel_right, flat_map_more, length-append, take_all, take_more, from_le_bytes-to_le_bytes_8, from_le_bytes, to_le_bytes, fnv1a64_basis, fnv1a64_from, fnv1a64_step, AppendsPart, part_behind, part_longer, hex, hex_value, hex_value-hex, length-hex, IsStored, bytes_of, field, file_of, header, seal, sealed, title, Filter, filter_of, w64}
+use Rattle.hash_bloom.proofs.Common.{◌≡◌, ℕ, suc, ◌+◌, ◌*◌, ◌<◌, ◌^◌, ◌≤◌, List, [], ◌∷◌, ◌++◌, length, take, drop, get_or, Option, Some, None, refl, sym, ap, ◌∙◌, subst, append_assoc, arith, codes, take-append-drop, Appends, Consumes, flat_map-append, append_cancel_left, append_cancel_right, flat_map_more, length-append, take_all, take_more, from_le_bytes-to_le_bytes_8, from_le_bytes, to_le_bytes, fnv1a64_from, AppendsPart, part_behind, part_longer, hex, hex_value, hex_value-hex, length-hex, IsStored, bytes_of, field, file_of, header, seal, sealed, title, Filter, filter_of, w64, common_steps, nat_tests}
 use Rattle.std.proofs.KnownBytes.{Appends-trans, Consumes-trans}
 use Rattle.std.proofs.Math.Seq.{take-append_seam}
 use Rattle.hashers.proofs.RecurrenceLaws.{recurrence-append}
@@ -7,17 +7,13 @@ use Rattle.hashers.proofs.RecurrenceLaws.{recurrence-append}
 -- one word more behind the header
 pub bytes_more : (header words : List ℕ) (i : ℕ) → i < length words
     → (header ++ bytes_of (take i words)) ++ to_le_bytes w64 (get_or words i 0) ≡ header ++ bytes_of (take (i + 1) words)
-bytes_more header words i below =
-    flat_map_more (to_le_bytes w64) header (take i words) (get_or words i 0)
-    ∙ ap (λ l. header ++ bytes_of l) (sym (take_more words i 0 below))
+bytes_more header words i below = grind (arith, nat_tests, common_steps, flat_map_more, take_more)
 
 -- the hash so far, and one word more
 pub hash_more : (s : ℕ) (header words : List ℕ) (i : ℕ) → i < length words
     → fnv1a64_from (fnv1a64_from s (header ++ bytes_of (take i words))) (to_le_bytes w64 (get_or words i 0))
     ≡ fnv1a64_from s (header ++ bytes_of (take (i + 1) words))
-hash_more s header words i below =
-    sym (recurrence-append fnv1a64_step s (header ++ bytes_of (take i words)) (to_le_bytes w64 (get_or words i 0)))
-    ∙ ap (fnv1a64_from s) (bytes_more header words i below)
+hash_more s header words i below = grind (arith, nat_tests, common_steps, recurrence-append, bytes_more)
 
 -- bytes that were read, as many as stand in front
 pub front_is : (old new : Option (List ℕ)) (read front rest : List ℕ) → Consumes old new read → length read ≡ length front
@@ -38,9 +34,7 @@ left_behind old new front rest took known = (front_is old new front front rest t
 pub field_is : (old new : Option (List ℕ)) (digits number : ℕ) (read rest : List ℕ) → Consumes old new read → length read ≡ digits
     → old ≡ Some (field digits number ++ rest) → (read ≡ hex digits number) × (new ≡ Some (codes " " ++ rest))
 unfolding field
-field_is old new digits number read rest took long known =
-    front_is old new read (hex digits number) (codes " " ++ rest) took (long ∙ sym (length-hex digits number))
-    (known ∙ ap Some (append_assoc (hex digits number) (codes " ") rest))
+field_is old new digits number read rest took long known = grind (arith, nat_tests, common_steps, front_is, length-hex, append_assoc)
 
 -- a field that was read to its end
 pub field_read : (old mid new : Option (List ℕ)) (digits number : ℕ) (read : List ℕ) → Consumes old mid read → Consumes mid new (codes " ")
@@ -89,35 +83,25 @@ behind_numbers old mid new b p bits probes rest few low few' low' first second k
 pub header_read : (a b c d e f : Option (List ℕ)) (bits probes : ℕ) (pair : List ℕ) → Consumes a b title → Consumes b c (field 16 bits)
     → Consumes c d (field 8 probes) → Consumes d e pair → Consumes e f (codes "\n") → Consumes a f (header bits probes pair)
 unfolding header
-header_read a b c d e f bits probes pair one two three four five =
-    Consumes-trans a b f title (field 16 bits ++ (field 8 probes ++ (pair ++ codes "\n"))) one
-    (Consumes-trans b c f (field 16 bits) (field 8 probes ++ (pair ++ codes "\n")) two
-    (Consumes-trans c d f (field 8 probes) (pair ++ codes "\n") three (Consumes-trans d e f pair (codes "\n") four five)))
+header_read a b c d e f bits probes pair one two three four five = grind (arith, nat_tests, common_steps, Consumes-trans)
 
 -- one word more was read
 pub word_read : (a b c : Option (List ℕ)) (words next bytes : List ℕ) (word : ℕ) → Consumes a b (bytes_of words) → Consumes b c bytes
     → to_le_bytes w64 word ≡ bytes → next ≡ words ++ word ∷ [] → Consumes a c (bytes_of next)
-word_read a b c words next bytes word before now is grown =
-    let all : bytes_of words ++ bytes ≡ bytes_of next =
-    ap (λ t. bytes_of words ++ t) (sym is) ∙ flat_map_more (to_le_bytes w64) [] words word ∙ ap bytes_of (sym grown) in
-    subst (Consumes a c) all (Consumes-trans a b c (bytes_of words) bytes before now)
+word_read a b c words next bytes word before now is grown = grind (arith, nat_tests, common_steps, flat_map_more, Consumes-trans)
 
 -- one word more was written behind the header
 pub word_written : (a b c : Option (List ℕ)) (line words : List ℕ) (i : ℕ) → i < length words
     → Appends a b (line ++ bytes_of (take i words))
     → Appends b c (to_le_bytes w64 (get_or words i 0)) → Appends a c (line ++ bytes_of (take (i + 1) words))
-word_written a b c line words i below before now =
-    subst (Appends a c) (bytes_more line words i below)
-    (Appends-trans a b c (line ++ bytes_of (take i words)) (to_le_bytes w64 (get_or words i 0)) before now)
+word_written a b c line words i below before now = grind (arith, nat_tests, common_steps, bytes_more, Appends-trans)
 
 -- all words, and the hash behind them
 pub file_written : (a b c : Option (List ℕ)) (line words : List ℕ) (i : ℕ) → length words ≤ i
     → Appends a b (line ++ bytes_of (take i words))
     → Appends b c (seal (line ++ bytes_of words)) → Appends a c (sealed (line ++ bytes_of words))
 unfolding sealed
-file_written a b c line words i all before now =
-    Appends-trans a b c (line ++ bytes_of words) (seal (line ++ bytes_of words))
-    (subst (λ ws. Appends a b (line ++ bytes_of ws)) (take_all i words all) before) now
+file_written a b c line words i all before now = grind (arith, nat_tests, common_steps, take_all i words all)
 
 -- a beginning of the whole: of the line, up to a word, and up to the hash
 pub line_begun : (a b : Option (List ℕ)) (line words : List ℕ) → AppendsPart a b line → AppendsPart a b (sealed (line ++ bytes_of words))
@@ -151,9 +135,7 @@ hash_begun a b c line words i all before now =
 pub file_read : (a b c d : Option (List ℕ)) (line words : List ℕ) → Consumes a b line → Consumes b c (bytes_of words)
     → Consumes c d (seal (line ++ bytes_of words)) → Consumes a d (sealed (line ++ bytes_of words))
 unfolding sealed
-file_read a b c d line words one two three =
-    Consumes-trans a c d (line ++ bytes_of words) (seal (line ++ bytes_of words))
-    (Consumes-trans a b c line (bytes_of words) one two) three
+file_read a b c d line words one two three = grind (arith, nat_tests, common_steps, Consumes-trans)
 
 -- headers of one pair that stand in front of the same bytes
 pub same_header : (old new : Option (List ℕ)) (b p bits probes : ℕ) (pair rest : List ℕ) → b < 2 ^ 64 → p < 2 ^ 32
@@ -215,15 +197,7 @@ file_left old mid left b p pair words filter rest stored few low enough no_more 
     let count : length words ≡ length filter.words = omega (arith, stored.is_filter.room.enough, stored.is_filter.no_more) in
     let long : length (bytes_of words) ≡ length (bytes_of filter.words) =
     length-bytes_of words ∙ ap (λ n. 8 * n) count ∙ sym (length-bytes_of filter.words) in
-    let (same, at_hash) = front_is mid left (bytes_of words) (bytes_of filter.words) (seal ++ rest) read long at_words in
-    record {
-      bits = one;
-      probes = two;
-      bytes = same;
-      behind = at_hash ∙ ap Some (ap (λ t. to_le_bytes w64 (fnv1a64_from fnv1a64_basis t) ++ rest)
-          (ap (λ t. t ++ bytes_of filter.words) (ap (λ n. header n filter.probes pair) (sym one) ∙ ap (λ n. header b n pair) (sym two))
-          ∙ ap (λ t. header b p pair ++ t) (sym same)));
-    }
+    grind (arith, nat_tests, common_steps, front_is)
 
 -- files of one pair in front of the same bytes
 pub same_file : (pair : List ℕ) (filter other : Filter) (rest more : List ℕ) → IsStored filter → IsStored other

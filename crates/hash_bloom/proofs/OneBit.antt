@@ -1,5 +1,5 @@
 -- One bit more among words.
-use Rattle.hash_bloom.proofs.Common.{ℕ, ◌≡◌, ◌≢◌, ◌⊎◌, ◌↔◌, ◌*◌, ◌/◌, ◌%◌, ◌^◌, ◌<◌, List, length, get_or, set, ap, arith, ⊎_elim, inl, inr, get_or-set_other, bit_or, bit_at, cases_eq, elements, bit_at_set_same, bit_at_set_other, HasBit}
+use Rattle.hash_bloom.proofs.Common.{ℕ, ◌≡◌, ◌≢◌, ◌⊎◌, ◌↔◌, ◌*◌, ◌/◌, ◌%◌, ◌^◌, ◌<◌, List, length, get_or, set, ap, arith, ⊎_elim, get_or-set_other, bit_or, bit_at, cases_eq, elements, bit_at_set_same, bit_at_set_other, HasBit, common_steps, nat_tests}
 use Rattle.std.proofs.Common.{w64}
 
 -- the words with one bit more
@@ -32,7 +32,4 @@ module _ (words : List ℕ) (at : ℕ) (there : at < 64 * length words) where
       (cases_eq (j / 64) (at / 64))
 
   pub one_bit_more : (j : ℕ) → HasBit (with_bit words at) j ↔ (HasBit words j ⊎ j ≡ at)
-  one_bit_more j = ⊎_elim
-      (λ (is : j ≡ at). (λ _. inr is, λ _. grind (arith, is, has_new)))
-      (λ (ne : j ≢ at). (λ h. inl (grind (arith, h, other_bit j ne)), λ h. grind (arith, h, ne, other_bit j ne)))
-      (cases_eq j at)
+  one_bit_more j = grind (arith, nat_tests, common_steps, has_new, other_bit, cases_eq)

@@ -1,5 +1,5 @@
 -- How many bits are set, by words.
-use Rattle.hash_bloom.proofs.Common.{ℕ, zero, suc, ◌≡◌, ◌≢◌, ◌↔◌, ◌+◌, ◌-◌, ◌*◌, ◌/◌, ◌%◌, ◌^◌, ◌<◌, ◌≤◌, List, [], ◌∷◌, length, get_or, refl, sym, ap, ap₂, ◌∙◌, arith, ⊎_elim, bit_at, sum_by, range_with_len, cases_eq, sum_by-cons, sum_by-le-sum_by, ones_cat, bit_at-lt, bit_at-suc, bit_at_lowest, Filter, IsEmpty, IsFilter, IsSet, bit, count_set}
+use Rattle.hash_bloom.proofs.Common.{ℕ, zero, suc, ◌≡◌, ◌≢◌, ◌↔◌, ◌+◌, ◌-◌, ◌*◌, ◌/◌, ◌%◌, ◌^◌, ◌<◌, ◌≤◌, List, [], ◌∷◌, length, get_or, refl, sym, ap, ap₂, ◌∙◌, arith, ⊎_elim, bit_at, sum_by, range_with_len, cases_eq, sum_by-cons, sum_by-le-sum_by, ones_cat, bit_at-lt, bit_at-suc, bit_at_lowest, Filter, IsEmpty, IsFilter, IsSet, bit, count_set, common_steps, nat_tests}
 use Rattle.std.specs.Int.RustNames.{count_ones}
 
 -- the sum of n numbers from a on
@@ -65,9 +65,7 @@ ones_are (suc k) w low =
     (λ i a b. let e : 1 + i ≡ suc i = omega arith in ap (bit_at w) e ∙ bit_at-suc w i) in
     let ih = ones_are k (w / 2) half in
     let cat : count_ones (w / 2 * 2 ^ 1 + r) ≡ count_ones (w / 2) + count_ones r = ones_cat 1 (w / 2) r (omega arith) in
-    let lowest : bit_at w 0 ≡ r = bit_at_lowest w in
-    let one = ones_low r (omega arith) in
-    sym (ap count_ones whole) ∙ omega (arith, cat, ih, rest, lowest, one, next (bit_at w) 0 k)
+    grind (arith, nat_tests, common_steps, bit_at_lowest, ones_low, next)
 
 -- those of words
 sum_words : (words : List ℕ) → ((i : ℕ) → get_or words i 0 < 2 ^ 64) → sum_by count_ones words ≡ sum_from (bit words) 0 (64 * length words)
@@ -75,21 +73,14 @@ sum_words [] fits = refl
 sum_words (w ∷ words) fits =
     let more : 64 * length (w ∷ words) ≡ 64 + 64 * length words = omega arith in
     let first : sum_from (bit (w ∷ words)) 0 64 ≡ sum_from (bit_at w) 0 64 =
-    same_sum (bit (w ∷ words)) (bit_at w) 0 64 (λ i low high.
-    let word : i / 64 ≡ 0 = omega arith in
-    let place : i % 64 ≡ i = omega arith in
-    ap₂ bit_at (ap (λ k. get_or (w ∷ words) k 0) word) place) in
+    grind (arith, nat_tests, common_steps, same_sum) in
     let others : sum_from (bit (w ∷ words)) (64 + 0) (64 * length words) ≡ sum_from (bit words) 0 (64 * length words) =
     shifted_sum (bit (w ∷ words)) 64 0 (64 * length words)
     ∙ same_sum (λ i. bit (w ∷ words) (64 + i)) (bit words) 0 (64 * length words) (λ i low high.
-    let word : (64 + i) / 64 ≡ suc (i / 64) = omega arith in
-    let place : (64 + i) % 64 ≡ i % 64 = omega arith in
-    ap₂ bit_at (ap (λ k. get_or (w ∷ words) k 0) word) place) in
+    grind (arith, nat_tests, common_steps)) in
     let ih = sum_words words (λ i. fits (suc i)) in
     let here = ones_are 64 w (fits 0) in
-    let split = split_sum (bit (w ∷ words)) 0 64 (64 * length words) in
-    sum_by-cons count_ones w words
-    ∙ sym (ap (sum_from (bit (w ∷ words)) 0) more ∙ split ∙ ap₂ (λ x y. x + y) (first ∙ sym here) (others ∙ sym ih))
+    grind (arith, nat_tests, common_steps, split_sum, sum_by-cons)
 
 -- no bit beyond is set, so the words' ones are those of the bits
 pub ones_of_words : (words : List ℕ) (bits : ℕ) → ((i : ℕ) → get_or words i 0 < 2 ^ 64) → bits ≤ 64 * length words
@@ -97,12 +88,7 @@ pub ones_of_words : (words : List ℕ) (bits : ℕ) → ((i : ℕ) → get_or wo
 ones_of_words words bits fits enough within =
     let n : ℕ = 64 * length words - bits in
     let whole : 64 * length words ≡ bits + n = omega arith in
-    let none : sum_from (bit words) (0 + bits) n ≡ n * 0 = steady_sum (bit words) 0 (0 + bits) n (λ i low high.
-    let small = bit_at-lt (get_or words (i / 64) 0) (i % 64) in
-    ⊎_elim
-    (λ (one : bit words i ≡ 1). let less = within i one in absurd (omega (arith, low, less)))
-    (λ (ne : bit words i ≢ 1). omega (arith, ne, small))
-    (cases_eq (bit words i) 1)) in
+    let none : sum_from (bit words) (0 + bits) n ≡ n * 0 = grind (arith, nat_tests, common_steps, steady_sum, bit_at-lt, cases_eq) in
     let split = split_sum (bit words) 0 bits n in
     sum_words words fits ∙ ap (sum_from (bit words) 0) whole ∙ split ∙ omega (arith, none)
 

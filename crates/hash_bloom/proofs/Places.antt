@@ -1,5 +1,5 @@
 -- The places of probes, one after another.
-use Rattle.hash_bloom.proofs.Common.{ℕ, zero, suc, refl, ◌-◌, ◌/◌, ◌^◌, ◌≡◌, ◌⊎◌, ◌↔◌, ◌+◌, ◌*◌, ◌%◌, Bool, ◌&&◌, IsTrue, List, sym, subst, arith, ⊎_elim, inl, below_more, add-mod, mod-add-mod, pow-suc, pow-zero, and_parts, and_from, HasBit, HasAll, IsAmong, probe_hash}
+use Rattle.hash_bloom.proofs.Common.{ℕ, zero, suc, refl, ◌-◌, ◌/◌, ◌^◌, ◌≡◌, ◌⊎◌, ◌↔◌, ◌+◌, ◌*◌, ◌%◌, Bool, ◌&&◌, IsTrue, List, sym, subst, arith, ⊎_elim, inl, below_more, add-mod, mod-add-mod, pow-suc, pow-zero, and_parts, and_from, HasBit, HasAll, IsAmong, probe_hash, common_steps, nat_tests}
 
 -- how much more the hash of the probe behind probe i is
 abbrev pub step_of : ℕ → ℕ → ℕ
@@ -10,34 +10,24 @@ cube_is_product n = rw (pow-suc n 2, pow-suc n 1, pow-suc n 0, pow-zero n) (grin
 
 two_halves : (i : ℕ) → 2 * (i * (i + 1) / 2) ≡ i * (i + 1)
 two_halves zero = refl
-two_halves (suc i) =
-    let so_far = two_halves i in
-    let more : suc i * (suc i + 1) ≡ i * (i + 1) + 2 * (i + 1) = grind arith in
-    omega (arith, so_far, more)
+two_halves (suc i) = grind (arith, nat_tests, common_steps, two_halves i)
 
 six_sixths : (i : ℕ) → 6 * ((i ^ 3 - i) / 6) + i ≡ i ^ 3
 six_sixths zero = refl
-six_sixths (suc i) =
-    let so_far = six_sixths i in
-    let more : suc i ^ 3 ≡ i ^ 3 + 3 * (i * (i + 1)) + 1 = rw (cube_is_product i, cube_is_product (suc i)) (grind arith) in
-    omega (arith, so_far, more, two_halves i)
+six_sixths (suc i) = grind (arith, nat_tests, common_steps, six_sixths i, cube_is_product i, cube_is_product (suc i), two_halves i)
 
 -- the hash and the step of the next probe
 module _ (second i step : ℕ) (is_step : step ≡ step_of second i) where
   pub next_hash : (first hash : ℕ) → hash ≡ probe_hash first second i → (hash + step) % 2 ^ 64 ≡ probe_hash first second (i + 1)
   next_hash first hash is =
       let cube : (i + 1) ^ 3 ≡ i ^ 3 + 3 * (i * (i + 1)) + 1 = rw (cube_is_product i, cube_is_product (i + 1)) (grind arith) in
-      let product : (i + 1) * second ≡ i * second + second = grind arith in
       let more : first + (i + 1) * second + ((i + 1) ^ 3 - (i + 1)) / 6
       ≡ first + i * second + (i ^ 3 - i) / 6 + (second + i * (i + 1) / 2) =
-      omega (arith, cube, product, two_halves i, six_sixths i) in
+      omega (arith, cube, two_halves i, six_sixths i) in
       rw (is, is_step, more) (sym (add-mod (first + i * second + (i ^ 3 - i) / 6) (second + i * (i + 1) / 2) (2 ^ 64)))
 
   pub next_step : (step + (i + 1)) % 2 ^ 64 ≡ step_of second (i + 1)
-  next_step =
-      let product : (i + 1) * (i + 1 + 1) ≡ i * (i + 1) + 2 * (i + 1) = grind arith in
-      let more : second + (i + 1) * (i + 1 + 1) / 2 ≡ second + i * (i + 1) / 2 + (i + 1) = omega (arith, product, two_halves i) in
-      rw (is_step, more, ← mod-add-mod (second + i * (i + 1) / 2) (2 ^ 64) (i + 1)) refl
+  next_step = grind (arith, nat_tests, common_steps, two_halves, mod-add-mod)
 
 module _ (places : ℕ → ℕ) (i at : ℕ) (is : at ≡ places i) where
   pub all_more : (words : List ℕ) → HasAll words places i → HasBit words at → HasAll words places (i + 1)
@@ -49,10 +39,7 @@ module _ (places : ℕ → ℕ) (i at : ℕ) (is : at ≡ places i) where
         → (j : ℕ) → HasBit new j ↔ (HasBit old j ⊎ IsAmong places (i + 1) j)
     set_more new step j = (
       λ h. grind (arith, (step j).0 h, (before j).0, is),
-      λ h. ⊎_elim
-          (λ o. (step j).1 (inl ((before j).1 (inl o))))
-          (λ a. grind (arith, (step j).1, (before j).1, a, is))
-          h,
+      grind (arith, nat_tests, common_steps),
     )
 
     -- all were set at first where all so far were, and this one is set now

@@ -1,5 +1,5 @@
 -- The remainder by a multiplication with (2^64 - 1) / bits in place of a division.
-use Rattle.hash_bloom.proofs.Common.{ℕ, ◌≡◌, ◌+◌, ◌-◌, ◌*◌, ◌/◌, ◌%◌, ◌^◌, ◌<◌, ◌≤◌, sym, ap, subst, ◌∙◌, arith, add-mul-mod_self_right, mod-eq_of_lt, div-mul-le_self, mul-le-mul_left, mul-le-mul_right, lt-div-mul-add}
+use Rattle.hash_bloom.proofs.Common.{ℕ, ◌≡◌, ◌+◌, ◌-◌, ◌*◌, ◌/◌, ◌%◌, ◌^◌, ◌<◌, ◌≤◌, sym, ap, subst, ◌∙◌, arith, add-mul-mod_self_right, mod-eq_of_lt, div-mul-le_self, mul-le-mul_left, mul-le-mul_right, lt-div-mul-add, common_steps, nat_tests}
 
 -- the multiple that is taken off is not above the hash, and less than two times bits below it
 pub reduced : (hash bits inverse times : ℕ) → hash < 2 ^ 64 → 1 ≤ bits → inverse ≡ (2 ^ 64 - 1) / bits
@@ -15,13 +15,7 @@ reduced hash bits inverse times low some is_inverse is_times =
     let ceils : (hash * inverse + 1) * bits ≤ (times * 2 ^ 64 + 2 ^ 64) * bits = mul-le-mul_right bits ceil in
     let below : hash * (inverse * bits) ≤ hash * 2 ^ 64 = mul-le-mul_left hash (omega (arith, under)) in
     let above : hash * 2 ^ 64 ≤ hash * (inverse * bits + bits) = mul-le-mul_left hash over in
-    let small : hash * bits ≤ 2 ^ 64 * bits = mul-le-mul_right bits (omega (arith, low)) in
-    let a : times * 2 ^ 64 * bits ≡ times * bits * 2 ^ 64 = grind arith in
-    let b : (hash * inverse + 1) * bits ≡ hash * (inverse * bits) + bits = grind arith in
-    let c : (times * 2 ^ 64 + 2 ^ 64) * bits ≡ times * bits * 2 ^ 64 + bits * 2 ^ 64 = grind arith in
-    let d : hash * (inverse * bits + bits) ≡ hash * (inverse * bits) + hash * bits = grind arith in
-    let e : hash * inverse * bits ≡ hash * (inverse * bits) = grind arith in
-    (omega (arith, floors, below, a, e), omega (arith, ceils, above, small, b, c, d, some))
+    grind (arith, nat_tests, common_steps, mul-le-mul_right)
 
 -- a number less one multiple is the remainder where it is below `bits`
 pub rest_is_remainder : (n bits times rest : ℕ) → n ≡ rest + times * bits → rest < bits → rest ≡ n % bits

@@ -1,5 +1,5 @@
 -- Changes one after another, and what they leave to be found.
-use Rattle.hash_bloom.proofs.Common.{ℕ, ◌≡◌, ◌⊎◌, ◌↔◌, List, [], ◌∷◌, ◌++◌, sym, ap, ◌∙◌, subst, ⊎_elim, inl, inr, length, append_assoc, arith, nil_from_length, Filter, IsProbe, Passes, Fits, Adds, SetsBit, AnySetsBit, Inserts}
+use Rattle.hash_bloom.proofs.Common.{ℕ, ◌≡◌, ◌⊎◌, ◌↔◌, List, [], ◌∷◌, ◌++◌, sym, ap, ◌∙◌, subst, ⊎_elim, inl, inr, length, append_assoc, arith, nil_from_length, Filter, IsProbe, Passes, Fits, Adds, SetsBit, AnySetsBit, Inserts, rules, common_steps, nat_tests}
 use Rattle.std.proofs.lemmas.List.{append-nil}
 use Rattle.hash_bloom.specs.declared.commands.Command.{Command}
 use Rattle.hash_bloom.specs.declared.commands.Command.TheVariants.{Insert, Union, Store}
@@ -17,10 +17,7 @@ module _ (f g : List ℕ → ℕ) where
   module _ {F G : Type 0} where
     -- which bits a command sets depends on the number of bits and probes alone
     sets_same : (a b : Filter) → Fits a b → (command : Command F G) (j : ℕ) → SetsBit f g b command j ↔ SetsBit f g a command j
-    sets_same a b fits (Insert key) j = (
-      λ probe. (probe.0, grind (arith, probe.1, fits.1), grind (arith, probe.2, fits.0)),
-      λ probe. (probe.0, grind (arith, probe.1, fits.1), grind (arith, probe.2, fits.0)),
-    )
+    sets_same a b fits (Insert key) j = grind (arith, nat_tests, common_steps)
     sets_same a b fits (Union other) j = (λ set. set, λ set. set)
     sets_same a b fits Store j = (λ set. set, λ set. set)
 
@@ -28,24 +25,13 @@ module _ (f g : List ℕ → ℕ) where
         → AnySetsBit f g a (done ++ command ∷ []) j ↔ (AnySetsBit f g a done j ⊎ SetsBit f g a command j)
     any_more a [] command j =
         (λ set. ⊎_elim (λ here. inr here) (λ none. absurd none) set, λ set. ⊎_elim (λ none. absurd none) (λ here. inl here) set)
-    any_more a (first ∷ done) command j = (
-      λ set. grind (arith, set, (any_more a done command j).0),
-      λ set. grind (arith, set, (any_more a done command j).1),
-    )
+    any_more a (first ∷ done) command j = grind (arith, nat_tests, common_steps, any_more a done command j)
 
     -- one command more
     pub run_more : (a mid new : Filter) (done : List (Command F G)) (command : Command F G)
         → Adds a mid (AnySetsBit f g a done) → Adds mid new (SetsBit f g mid command)
         → Adds a new (AnySetsBit f g a (done ++ command ∷ []))
-    run_more a mid new done command before step = record {
-      shape = (step.shape.0 ∙ before.shape.0, step.shape.1 ∙ before.shape.1);
-      set = λ j.
-          let same = sets_same a mid before.shape command j in
-          let any = any_more a done command j in (
-            λ set. grind (arith, (step.set j).0 set, (before.set j).0, any.1, same.0),
-            λ set. grind (arith, set, (step.set j).1, (before.set j).1, any.0, same.1),
-          );
-    }
+    run_more a mid new done command before step = search (rules, sets_same, any_more)
 
     inserts_set : (a : Filter) (commands : List (Command F G)) (key : List ℕ) → Inserts commands key
         → (j : ℕ) → IsProbe f g a key j → AnySetsBit f g a commands j

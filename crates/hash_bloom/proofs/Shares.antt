@@ -1,5 +1,5 @@
 -- The numbers of bits and probes that let one strange key in 2^k pass.
-use Rattle.hash_bloom.proofs.Common.{ℕ, ◌≡◌, ◌-◌, ◌*◌, ◌^◌, ◌<◌, ◌≤◌, ◌&&◌, leb, Bool, true, [], ◌∷◌, get_or, length, refl, arith, subst, list_all, range_with_len, and_parts, leb-true, AllPass-from_list_all, LetsFewPass, best_probes, bits_for_share}
+use Rattle.hash_bloom.proofs.Common.{ℕ, ◌≡◌, ◌-◌, ◌*◌, ◌^◌, ◌<◌, ◌≤◌, ◌&&◌, leb, Bool, true, [], ◌∷◌, get_or, length, refl, arith, subst, list_all, range_with_len, and_parts, leb-true, AllPass-from_list_all, LetsFewPass, best_probes, bits_for_share, common_steps, nat_tests}
 use Rattle.std.proofs.lemmas.List.FromFn.{get_or-range_with_len, length-range_with_len}
 
 -- how many bits of 100 stay zero, for each k
@@ -28,10 +28,4 @@ few_pass k some most =
     let is : get_or (range_with_len 1 22) (k - 1) 0 ≡ k = omega (arith, get_or-range_with_len 1 22 (k - 1) 0 (omega arith)) in
     let both = and_parts (stays k) (passes k) (subst (λ n. (stays n && passes n) ≡ true) is
     (AllPass-from_list_all (λ n. stays n && passes n) (range_with_len 1 22) all_hold (k - 1) 0 below)) in
-    let bits = bits_for_share k in
-    let probes = best_probes bits in
-    record {
-      zeros = zeros_at k;
-      stay = leb-true (272 ^ probes * zeros_at k ^ bits) (100 ^ probes * 100 ^ bits) both.0;
-      pass = leb-true (2 ^ k * (100 - zeros_at k) ^ probes) (100 ^ probes) both.1;
-    }
+    grind (arith, nat_tests, common_steps, leb-true)

@@ -1,18 +1,9 @@
 -- Words joined by or, and the last word of a filter.
-use Rattle.hash_bloom.proofs.Common.{ℕ, ◌≡◌, ◌≢◌, ◌⊎◌, ◌↔◌, ◌+◌, ◌-◌, ◌*◌, ◌/◌, ◌%◌, ◌^◌, ◌<◌, ◌≤◌, max, List, length, get_or, sym, ap, ◌∙◌, arith, ⊎_elim, bit_or, shr-shr, bit_at, cases_eq, cases_lt, get_or_past, bit_at_or, bit_at-lt, bit_at_above, bit_at-zero, same_from_bits, HasBit}
+use Rattle.hash_bloom.proofs.Common.{ℕ, ◌≡◌, ◌≢◌, ◌⊎◌, ◌↔◌, ◌+◌, ◌-◌, ◌*◌, ◌/◌, ◌%◌, ◌^◌, ◌<◌, ◌≤◌, List, length, get_or, sym, ap, ◌∙◌, arith, ⊎_elim, bit_or, shr-shr, bit_at, cases_eq, cases_lt, get_or_past, bit_at_or, bit_at-lt, bit_at_above, bit_at-zero, same_from_bits, HasBit, common_steps, nat_tests}
 
 pub united : (old others new : List ℕ) → ((k : ℕ) → get_or new k 0 ≡ bit_or (get_or old k 0) (get_or others k 0))
     → (j : ℕ) → HasBit new j ↔ (HasBit old j ⊎ HasBit others j)
-united old others new each j =
-    let a : ℕ = bit_at (get_or old (j / 64) 0) (j % 64) in
-    let b : ℕ = bit_at (get_or others (j / 64) 0) (j % 64) in
-    let is : bit_at (get_or new (j / 64) 0) (j % 64) ≡ max a b =
-    ap (λ w. bit_at w (j % 64)) (each (j / 64)) ∙ bit_at_or (get_or old (j / 64) 0) (get_or others (j / 64) 0) (j % 64) in
-    let low : a < 2 = bit_at-lt (get_or old (j / 64) 0) (j % 64) in
-    let low' : b < 2 = bit_at-lt (get_or others (j / 64) 0) (j % 64) in (
-      λ (h : HasBit new j). grind (arith, is, h, low, low'),
-      λ (h : HasBit old j ⊎ HasBit others j). grind (arith, is, h, low, low'),
-    )
+united old others new each j = grind (arith, nat_tests, common_steps, bit_at_or, bit_at-lt)
 
 -- beyond the bits lies the rest of the last word alone
 module _ (words : List ℕ) (bits : ℕ) (enough : bits ≤ 64 * length words) (no_more : 64 * length words < bits + 64)
@@ -25,12 +16,7 @@ module _ (words : List ℕ) (bits : ℕ) (enough : bits ≤ 64 * length words) (
       (λ (below : j < bits). below)
       (λ (beyond : bits ≤ j). ⊎_elim
       (λ (same : j / 64 ≡ bits / 64).
-      let place : j % 64 ≡ bits % 64 + (j % 64 - bits % 64) = omega arith in
-      let none : bit_at last (j % 64) ≡ 0 =
-      ap (bit_at last) place ∙ ap (λ n. n % 2) (sym (shr-shr last (bits % 64) (j % 64 - bits % 64)))
-      ∙ ap (λ n. n / 2 ^ (j % 64 - bits % 64) % 2) clear ∙ bit_at-zero (j % 64 - bits % 64) in
-      let one : bit_at last (j % 64) ≡ 1 = ap (λ k. bit_at (get_or words k 0) (j % 64)) (sym same) ∙ has in
-      absurd (omega (arith, none, one)))
+      grind (arith, nat_tests, common_steps, shr-shr last (bits % 64) (j % 64 - bits % 64), bit_at-zero (j % 64 - bits % 64)))
       (λ (other : j / 64 ≢ bits / 64).
       let none = get_or_past words (j / 64) 0 (omega arith) in
       grind (arith, none, bit_at-zero (j % 64), has))
@@ -45,12 +31,7 @@ module _ (words : List ℕ) (bits : ℕ) (enough : bits ≤ 64 * length words) (
       (λ (within : r + i < 64).
       let j : ℕ = 64 * (bits / 64) + (r + i) in
       let word : j / 64 ≡ bits / 64 = omega arith in
-      let bit : j % 64 ≡ r + i = omega arith in
-      let beyond : bits ≤ j = omega arith in
-      let small : bit_at last (r + i) < 2 = bit_at-lt last (r + i) in
-      let has : bit_at last (r + i) ≡ 1 → HasBit words j = λ one. grind (arith, word, bit, one) in
-      let less : bit_at last (r + i) ≡ 1 → j < bits = λ one. below j (has one) in
-      grind (arith, less, beyond, small))
+      grind (arith, nat_tests, common_steps, bit_at-lt))
       (λ (above : 64 ≤ r + i). bit_at_above last 64 (r + i) fits above)
       (cases_lt (r + i) 64) in
       moved ∙ zero_bit ∙ sym (bit_at-zero i))

@@ -1,5 +1,5 @@
 -- How many zeros are expected after some probes, and how near the parts of 2 ^ 128 come to that.
-use Rattle.hash_bloom.proofs.Common.{ℕ, ⊎_elim, zero, suc, ◌≡◌, ◌+◌, ◌-◌, ◌*◌, ◌/◌, ◌^◌, ◌<◌, ◌≤◌, arith, lit≤, min, refl, sym, ap, ◌∙◌, subst, pow-add, div-mul-le_self, le_of_mul-le-mul_left, le_of_mul-le-mul_right, lt-div-mul-add, lt-mul-div-succ, lt_of_mul-lt-mul_left, mul-le-mul, mul-le-mul_left, mul-div-le, mul-le-mul_right, one-le-pow, pow-le-pow_left, pow-suc, pow-zero, cases_lt, pow_more, IsExpected, IsNearest, LeavesAtMost, LeavesMore}
+use Rattle.hash_bloom.proofs.Common.{ℕ, ⊎_elim, zero, suc, ◌≡◌, ◌+◌, ◌-◌, ◌*◌, ◌/◌, ◌^◌, ◌<◌, ◌≤◌, arith, lit≤, min, refl, sym, ap, ◌∙◌, subst, pow-add, div-mul-le_self, le_of_mul-le-mul_left, le_of_mul-le-mul_right, lt-div-mul-add, lt-mul-div-succ, lt_of_mul-lt-mul_left, mul-le-mul, mul-le-mul_left, mul-div-le, mul-le-mul_right, one-le-pow, pow-le-pow_left, pow-suc, pow-zero, cases_lt, pow_more, IsExpected, IsNearest, LeavesAtMost, LeavesMore, rules, common_steps, nat_tests}
 
 pow_one : (x : ℕ) → x ^ 1 ≡ x
 pow_one x = pow_more x 0 ∙ rw (pow-zero x) (omega arith)
@@ -22,9 +22,7 @@ half c some =
     le_of_mul-le-mul_right all some
 
 halves : (c j : ℕ) → 1 ≤ c → 2 ^ j * c ^ ((c + 1) * j) ≤ (c + 1) ^ ((c + 1) * j)
-halves c zero some =
-    let e : (c + 1) * zero ≡ 0 = omega arith in
-    rw (e, pow-zero c, pow-zero (c + 1)) (lit≤ tt)
+halves c zero some = grind (arith, nat_tests, common_steps, pow-zero)
 halves c (suc j) some =
     let b = c + 1 in
     let e : b * suc j ≡ b * j + b = grind arith in
@@ -41,10 +39,7 @@ module _ (bits zeros : ℕ) where
       rw (is, pow-add (bits - 1) m d, pow-add bits m d) (grind (arith, mul-le-mul h less))
 
   pub more_before : (m n : ℕ) → m ≤ n → LeavesMore bits zeros n → LeavesMore bits zeros m
-  more_before m n upto h = ⊎_elim
-      (λ (more : LeavesMore bits zeros m). more)
-      (λ (at_most : LeavesAtMost bits zeros m). absurd (omega (arith, h, at_most_later m n upto at_most)))
-      (cases_lt (zeros * bits ^ m) ((bits - 1) ^ m * bits))
+  more_before m n upto h = grind (arith, nat_tests, common_steps, at_most_later, cases_lt)
 
   -- 64 probes a bit leave less than one zero of 2 ^ 64
   pub few : 2 ≤ bits → 1 ≤ zeros → bits ≤ 2 ^ 64 → (m : ℕ) → LeavesMore bits zeros m → m < 64 * bits
@@ -86,8 +81,7 @@ pub expected_both : (bits p q x y s : ℕ) → IsExpected bits p x → IsExpecte
     → IsExpected bits (p + q) s
 expected_both bits p q x y s one other within is =
     let floor : s * 2 ^ 128 ≤ x * y = rw is (div-mul-le_self (x * y) (2 ^ 128)) in
-    let over : x * y < s * 2 ^ 128 + 2 ^ 128 = rw is (lt-div-mul-add (lit≤ tt)) in
-    let ceiling : x * y ≤ s * 2 ^ 128 + 2 ^ 128 = omega (arith, over) in
+    let ceiling : x * y ≤ s * 2 ^ 128 + 2 ^ 128 = omega arith in
     let under : (bits - 1) ^ p ≤ bits ^ p = pow-le-pow_left (omega arith) p in
     let errors : 2 * p - 1 + (2 * q - 1) + 1 ≡ 2 * (p + q) - 1 = omega (arith, one.some, other.some) in
     let a = (bits - 1) ^ p in
@@ -132,14 +126,10 @@ within t q b c z p a left e some high most enough =
 module _ (bits bit : ℕ) (two : 2 ≤ bits) (is : bit ≡ (2 ^ 128 - 1) / bits + 1) where
   -- a bit's part, rounded up
   floor : 2 ^ 128 ≤ bit * bits
-  floor =
-      let h : 2 ^ 128 - 1 < (2 ^ 128 - 1) / bits * bits + bits = lt-div-mul-add (omega arith) in
-      rw is (grind (arith, h))
+  floor = grind (arith, nat_tests, common_steps, lt-div-mul-add)
 
   ceiling : bit * bits < 2 ^ 128 + bits
-  ceiling =
-      let h : (2 ^ 128 - 1) / bits * bits ≤ 2 ^ 128 - 1 = div-mul-le_self (2 ^ 128 - 1) bits in
-      rw is (grind (arith, h))
+  ceiling = grind (arith, nat_tests, common_steps, div-mul-le_self)
 
   pub expected_first : IsExpected bits 1 (2 ^ 128 - 1 - bit + 1)
   expected_first =
@@ -149,11 +139,7 @@ module _ (bits bit : ℕ) (two : 2 ≤ bits) (is : bit ≡ (2 ^ 128 - 1) / bits 
       let b : bits ^ 1 ≡ bits = pow_one bits in
       let c : (bits - 1) ^ 1 ≡ bits - 1 = pow_one (bits - 1) in
       let all : (zeros + bit) * bits ≡ 2 ^ 128 * bits = ap (λ n. n * bits) rest in
-      record {
-        some = omega arith;
-        low = rw (b, c) (grind (arith, all, floor));
-        high = rw (b, c) (grind (arith, all, ceiling));
-      }
+      grind (arith, nat_tests, common_steps, floor, ceiling)
 
   module _ (zeros m left : ℕ) (expected : IsExpected bits m left) where
     pub leaves_more : zeros * bit < left → LeavesMore bits zeros m
@@ -194,7 +180,5 @@ nearest bits probes zeros m keys some positive is before after =
           let upto : probes * keys ≤ probes * whole = mul-le-mul_left probes (omega (arith, is)) in
           more_before bits zeros n (m - 1) (omega (arith, h, upto, under)) before;
       at_most = λ small fits n h.
-          let exact : keys ≡ whole = omega (arith, is, fits) in
-          let same : probes * keys ≡ probes * whole = ap (λ k. probes * k) exact in
-          at_most_later bits zeros (m + 1) n (grind (arith, h, same, over)) (after small);
+          search (rules, at_most_later);
     }

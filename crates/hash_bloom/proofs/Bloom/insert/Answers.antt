@@ -1,4 +1,5 @@
-use Rattle.hash_bloom.proofs.Lemmas.{length, ap, refl, ◌∙◌, with_items_is, added_is_filter, probe_below, passes_still, passes_added}
+use Rattle.hash_bloom.proofs.Common.{common_steps, nat_tests}
+use Rattle.hash_bloom.proofs.Lemmas.{length, ap, ◌∙◌, with_items_is, added_is_filter, probe_below, passes_still, passes_added, arith}
 use Rattle.hash_bloom.proofs.Bloom.insert.Goals as goal
 
 pub invariant_of-self : goal.invariant_of-self
@@ -9,10 +10,7 @@ invariant_of-self g c =
     (c.insert.auto.words ∙ ap length c.deref_mut.ensures.value))
 
 pub returns-clause-inserted : goal.returns-clause-inserted
-returns-clause-inserted g c =
-    let new = with_items_is c.self.inside.words c.insert.new.words (c.insert.auto.words ∙ c.deref_mut.ensures.len) in
-    let adds = rw c.deref_mut.ensures.value at c.insert.ensures.inserted in
-    rw (← c.self.view_is) (record { shape = (refl, refl); set = rw new adds.set })
+returns-clause-inserted g c = grind (arith, nat_tests, common_steps, with_items_is)
 
 pub returns-clause-passes : goal.returns-clause-passes
 returns-clause-passes g c =

@@ -1,4 +1,4 @@
-use Rattle.hash_bloom.proofs.Lemmas.{rules, ◌≡◌, length, Some, Err, sym, ap, ◌∙◌, hex, hex_value, hex_value-hex, field_is, field_read}
+use Rattle.hash_bloom.proofs.Lemmas.{rules, ◌≡◌, length, Some, Err, ap, ◌∙◌, hex_value, hex_value-hex, field_is, field_read}
 use Rattle.hash_bloom.proofs.file.read_field.Goals as goal
 
 pub returns-in_default-clause-refused : goal.returns-in_default-clause-refused
@@ -12,12 +12,7 @@ pub returns-then-ne-clause-refused : goal.returns-then-ne-clause-refused
 returns-then-ne-clause-refused g c refusal number small rest known =
     let long : length c.read_exact.new.buf ≡ g.row.DIGITS = search rules in
     let (is, left) = field_is _ _ g.row.DIGITS number c.read_exact.new.buf rest c.in_ok-read_exact.ensures.bytes long known in
-    let some : c.hex_number.result ≡ Some number = c.hex_number.ensures.value ∙ ap hex_value is ∙ hex_value-hex g.row.DIGITS number small in
-    let one : Some c.in-Some.number ≡ Some number = sym c.in-Some.is ∙ some in
-    let same : c.put_hex.result.now ≡ c.as_slice.result.now =
-    let alike : c.in-Some.number ≡ number = cc in
-    c.put_hex.ensures ∙ ap (hex g.row.DIGITS) alike ∙ sym is ∙ sym c.as_slice.ensures in
-    search rules
+    search (rules, hex_value-hex)
 
 pub returns-in_err-expect-clause-refused : goal.returns-in_err-expect-clause-refused
 returns-in_err-expect-clause-refused g c =
@@ -28,6 +23,4 @@ returns-in_err-expect-clause-refused g c =
     c.in_err-expect.ensures.refused refusal rest left)
 
 pub returns-clause-read : goal.returns-clause-read
-returns-clause-read g c =
-    let is : hex g.row.DIGITS c.in-Some.number ≡ c.read_exact.new.buf = search rules in
-    field_read _ _ _ g.row.DIGITS c.in-Some.number c.read_exact.new.buf c.in_ok-read_exact.ensures.bytes c.in_ok-expect.ensures.read is
+returns-clause-read g c = search (rules, field_read)

@@ -1,4 +1,5 @@
-use Rattle.hash_bloom.proofs.Lemmas.{rules, ◌≡◌, ◌∙◌, ap, Some, Err, behind_numbers, behind_title, header_parts, header_read, left_behind, same_field}
+use Rattle.hash_bloom.proofs.Common.{common_steps, nat_tests}
+use Rattle.hash_bloom.proofs.Lemmas.{rules, ◌≡◌, ◌∙◌, ap, Some, Err, behind_numbers, behind_title, header_parts, header_read, left_behind, same_field, arith}
 use Rattle.hash_bloom.proofs.file.read_header.Goals as goal
 
 pub returns-in_err-read_title-clause-refused : goal.returns-in_err-read_title-clause-refused
@@ -41,6 +42,4 @@ returns-in_err-expect-2-clause-refused g c =
     c.in_err-expect-2.ensures.refused refusal rest (left_behind _ _ c.args.pair.now _ c.in_ok-expect.ensures.read left))
 
 pub returns-clause-read : goal.returns-clause-read
-returns-clause-read g c =
-    header_read _ _ _ _ _ _ c.in_ok-bits.bits c.in_ok-probes.probes c.args.pair.now c.in_ok-read_title.ensures.read
-    c.in_ok-bits.ensures.read c.in_ok-probes.ensures.read c.in_ok-expect.ensures.read c.in_ok-expect-2.ensures.read
+returns-clause-read g c = grind (arith, nat_tests, common_steps, header_read)

@@ -1,12 +1,9 @@
-use Rattle.hash_bloom.proofs.Lemmas.{rules, ◌≡◌, ◌++◌, ◌<◌, ◌^◌, ℕ, ap, arith, sym, subst, get_or, ◌∙◌, Some, Err, Consumes, bytes_of, header, seal, filter_of, bytes_tell_words, file_left, file_parts, file_read}
+use Rattle.hash_bloom.proofs.Common.{common_steps, nat_tests}
+use Rattle.hash_bloom.proofs.Lemmas.{rules, ◌≡◌, ◌++◌, ◌<◌, ◌^◌, ℕ, ap, arith, sym, get_or, ◌∙◌, Some, Err, bytes_of, header, seal, filter_of, bytes_tell_words, file_left, file_parts, file_read}
 use Rattle.hash_bloom.proofs.file.read_sealed.Goals as goal
 
 pub returns-in_err-bits-clause-refused : goal.returns-in_err-bits-clause-refused
-returns-in_err-bits-clause-refused g c =
-    let is : c.from_residual.result ≡ Err c.in_err-bits.field-0.0 = search rules in
-    rw is (λ refusal filter stored rest known.
-    c.in_err-bits.ensures.refused refusal filter.bits filter.probes stored.bits stored.probes _
-    (known ∙ ap Some (file_parts c.args.pair.now filter rest)))
+returns-in_err-bits-clause-refused g c = grind (arith, nat_tests, common_steps, file_parts)
 
 pub returns-in_err-expect-clause-refused : goal.returns-in_err-expect-clause-refused
 returns-in_err-expect-clause-refused g c =
@@ -22,13 +19,7 @@ returns-in_err-expect-clause-refused g c =
     c.in_err-expect.ensures.refused refusal rest (found.behind ∙ ap (λ t. Some (t ++ rest)) (sym sealed_so)))
 
 pub returns-clause-read : goal.returns-clause-read
-returns-clause-read g c =
-    let bits = c.in_ok-bits.bits in
-    let probes = c.in_ok-bits.probes in
-    let words = c.in_ok-words.words.items in
-    let sealed_so : c.seal.result ≡ seal (header bits probes c.args.pair.now ++ bytes_of words) = search rules in
-    file_read _ _ _ _ (header bits probes c.args.pair.now) words c.in_ok-bits.ensures.read c.in_ok-words.ensures.read
-    (subst (Consumes (g.R.Read.remaining c.read_words.new.r) (g.R.Read.remaining c.expect.new.r)) sealed_so c.in_ok-expect.ensures.read)
+returns-clause-read g c = grind (arith, nat_tests, common_steps, file_read)
 
 pub returns-clause-same : goal.returns-clause-same
 returns-clause-same g c filter stored rest known =

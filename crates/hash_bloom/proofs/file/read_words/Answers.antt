@@ -1,10 +1,6 @@
-use Rattle.hash_bloom.proofs.Lemmas.{rules, word_read}
+use Rattle.hash_bloom.proofs.Common.{common_steps, nat_tests}
+use Rattle.hash_bloom.proofs.Lemmas.{word_read, arith}
 use Rattle.hash_bloom.proofs.file.read_words.Goals as goal
 
 pub loop-preserved : goal.loop-preserved
-loop-preserved g c =
-    let (count, before) = c.loop.invariant in (
-      search rules,
-      word_read _ _ _ c.loop.words.items c.push.new.self.items c.read_exact.new.buf c.word_of.result before
-          c.in_ok-read_exact.ensures.bytes c.word_of.ensures c.in_ok-push.ensures.items,
-    )
+loop-preserved g c = grind (arith, nat_tests, common_steps, word_read)

@@ -1,17 +1,11 @@
-use Rattle.hash_bloom.proofs.Lemmas.{arith, ◌<◌, ◌≤◌, ◌∙◌, sym, ap₂, refl, ⊎_elim, length, bit_or, cases_lt, get_or_past, passes_still, passes_joined, united}
+use Rattle.hash_bloom.proofs.Common.{common_steps, nat_tests}
+use Rattle.hash_bloom.proofs.Lemmas.{arith, refl, cases_lt, get_or_past, passes_still, passes_joined, united}
 use Rattle.hash_bloom.proofs.words.union.Goals as goal
 
 pub returns-clause-united : goal.returns-clause-united
 returns-clause-united c = λ bits probes. record {
   shape = (refl, refl);
-  set = united _ _ _ (λ k. ⊎_elim
-      (λ (less : k < length c.args.words.now). c.loop-i.invariant.done k (omega arith))
-      (λ (past : length c.args.words.now ≤ k).
-      let past' : length c.loop-i.words ≤ k = omega arith in
-      let past'' : length c.args.others.now ≤ k = omega arith in
-      get_or_past c.loop-i.words k 0 past'
-      ∙ sym (ap₂ bit_or (get_or_past c.args.words.now k 0 past) (get_or_past c.args.others.now k 0 past'')))
-      (cases_lt k (length c.args.words.now)));
+  set = united _ _ _ (λ k. grind (arith, nat_tests, common_steps, get_or_past, cases_lt));
 }
 
 pub returns-clause-kept : goal.returns-clause-kept
