@@ -1,6 +1,6 @@
 -- What the proofs of this crate share of std, of the crates below and of its own definitions, passed on from one place.
 pub use Rattle.std.proofs.Common.{ℕ, ◌≡◌, ◌+◌, List, [], ◌∷◌, ◌++◌, ◌≤◌, length, drop, ap, subst, arith, length-drop, ◌-◌, ◌∙◌, append_assoc, ◌≢◌, ◌<◌, ◌&&◌, inr, Bool, true, false, Result, Ok, Err, map, set, get_or, take, Option, None, Some, sym, refl, take-append-drop, length-append, drop-cons, is_some, IsErr, inl, OnOk, not, if◌then◌else◌, fold, is_ok, cond, slice_index_or, count_by, bytes_eq, rules, OnErr, ◌^◌, length-take, IfOk, append-nil, flat_map, min, length-take-le}
-pub use Rattle.std.proofs.KnownBytes.{Appends-kept, Appends-nil, Consumes-trans, Consumes-whole, Appends-trans, Keeps-refl}
+pub use Rattle.std.proofs.KnownBytes.{Appends-kept, Appends-nil, Consumes-trans, Consumes-whole, Appends-trans, Keeps-refl, Consumes-nil}
 pub use Rattle.std.proofs.lemmas.Bool.{and_parts, false≢true, cases_lt, true≢false, eqb-false}
 pub use Rattle.std.proofs.lemmas.Grind.{flat_map-append, common_steps, elements, same_number_lists}
 pub use Rattle.std.proofs.lemmas.List.{drop-drop, drop-set-lt, map-append, take_more, take_more_set, drop_more, length-map, get_or-map, get_or_default, drop-take, get_or-drop, get_or_append_left, take-append-le, take_all, drop_all}
@@ -21,3 +21,4 @@ pub use Rattle.dedup_core.specs.Tallies.{column, Tallies, shown, told, times_of}
 pub use Rattle.dedup_core.specs.Taking.{At, BeginWith, BreaksInput, Broke, Leads, Grows}
 pub use Rattle.dedup_core.specs.Inputs.{AreRead, ReadsInput, whole_lines}
 pub use Rattle.dedup_core.specs.Running.{AllBeginWith, BreaksBehind, EndsBehind, EndsTaking, NextBeginsWith, Run, run_of}
+pub use Rattle.std.proofs.lemmas.Bool.Decides.{nat_tests}

@@ -1,6 +1,5 @@
 -- What was read of an input and taken of it, and what is written of that.
-use Rattle.std.proofs.lemmas.Bool.Decides.{nat_tests}
-use Rattle.dedup_core.proofs.Common.{◌≡◌, ℕ, ◌+◌, true, false, List, [], ◌∷◌, ◌++◌, length, take, drop, ap, sym, ◌∙◌, refl, subst, Option, None, Some, append_assoc, arith, Consumes, Keeps, IsAtEnd, Appends-kept, Consumes-trans, Consumes-whole, part_whole, IsBare, IsLineEnd, lines_by, bare_end, bare_line, first_ends, first_line, Filled, Splits, Takes, append-nil, At, BeginWith, BreaksInput, Broke, Grows, Leads, ReadsInput, whole_lines, common_steps}
+use Rattle.dedup_core.proofs.Common.{◌≡◌, ℕ, ◌+◌, true, false, List, [], ◌∷◌, ◌++◌, length, take, drop, ap, sym, ◌∙◌, refl, subst, Option, None, Some, append_assoc, arith, Consumes, Keeps, IsAtEnd, Appends-kept, Consumes-trans, Consumes-whole, part_whole, IsBare, IsLineEnd, lines_by, bare_end, bare_line, first_ends, first_line, Filled, Splits, Takes, append-nil, At, BeginWith, BreaksInput, Broke, Grows, Leads, ReadsInput, whole_lines, common_steps, nat_tests}
 use Rattle.std.proofs.lemmas.List.Elements.{filter-append}
 use Rattle.streams.proofs.RecordLemmas.{first_all, first_behind, first_both, first_none}
 use Rattle.dedup_core.specs.declared.unread.NextLine.{NextLine}

@@ -1,6 +1,5 @@
 -- The set of the texts that were seen.
-use Rattle.std.proofs.lemmas.Bool.Decides.{nat_tests}
-use Rattle.dedup_core.proofs.Common.{◌≡◌, ℕ, Result, Ok, Err, OnOk, Bool, true, false, not, List, [], ◌∷◌, ◌++◌, if◌then◌else◌, Option, arith, is_ok, strip_last, false≢true, map-append, fold-append, Appends-trans, Appends, AppendsPart, as_line_by, part_behind, has, with_text, append-nil, At, Broke, Leads, rules, common_steps}
+use Rattle.dedup_core.proofs.Common.{◌≡◌, ℕ, Result, Ok, Err, OnOk, Bool, true, false, not, List, [], ◌∷◌, ◌++◌, if◌then◌else◌, Option, arith, is_ok, strip_last, false≢true, map-append, fold-append, Appends-trans, Appends, AppendsPart, as_line_by, part_behind, has, with_text, append-nil, At, Broke, Leads, rules, common_steps, nat_tests}
 use Rattle.text_set.specs.Firsts.{firsts_by, once_by}
 
 -- what is told to be new is not there, and what is told to be old is

@@ -1,6 +1,5 @@
 -- Texts by their places, and how often each came.
-use Rattle.std.proofs.lemmas.Bool.Decides.{nat_tests}
-use Rattle.dedup_core.proofs.Common.{◌≡◌, ℕ, ◌+◌, ◌-◌, ◌^◌, ◌<◌, true, false, cond, List, [], ◌∷◌, ◌++◌, length, get_or, slice_index_or, set, map, ap, sym, ◌∙◌, arith, count_by, bytes_eq, strip_last, common_steps, elements, same_number_lists, map-append, length-map, get_or-map, get_or_default, sum_by_push, EachOnce, StandsAt, has, with_text, has_all, has_there, once_with, min, times_of, Tallies}
+use Rattle.dedup_core.proofs.Common.{◌≡◌, ℕ, ◌+◌, ◌-◌, ◌^◌, ◌<◌, true, false, cond, List, [], ◌∷◌, ◌++◌, length, get_or, slice_index_or, set, map, ap, sym, ◌∙◌, arith, count_by, bytes_eq, strip_last, common_steps, elements, same_number_lists, map-append, length-map, get_or-map, get_or_default, sum_by_push, EachOnce, StandsAt, has, with_text, has_all, has_there, once_with, min, times_of, Tallies, nat_tests}
 use Rattle.std.proofs.lemmas.Slice.Eq.{bytes_eq-Decides}
 use Rattle.dedup_core.proofs.SeenLemmas.{firsts_more}
 

@@ -1,6 +1,5 @@
 -- Bytes that were read and are not taken yet.
-use Rattle.std.proofs.lemmas.Bool.Decides.{nat_tests}
-use Rattle.dedup_core.proofs.Common.{◌≡◌, ℕ, ◌+◌, ◌-◌, ◌≤◌, true, false, List, ◌++◌, length, take, drop, Option, None, Some, ap, subst, ◌∙◌, arith, length-append, length-drop, is_some, false≢true, true≢false, drop-drop, drop-take, get_or-drop, take-append-le, take_all, IsBare, IsLineEnd, common_steps}
+use Rattle.dedup_core.proofs.Common.{◌≡◌, ℕ, ◌+◌, ◌-◌, ◌≤◌, true, false, List, ◌++◌, length, take, drop, Option, None, Some, ap, subst, ◌∙◌, arith, length-append, length-drop, is_some, false≢true, true≢false, drop-drop, drop-take, get_or-drop, take-append-le, take_all, IsBare, IsLineEnd, common_steps, nat_tests}
 use Rattle.std.proofs.lemmas.List.{length-take-le}
 use Rattle.std.proofs.Math.Seq.{drop-append_seam, take-append-add}
 use borrow.Rule.Slice.PartMut.{put_mid}

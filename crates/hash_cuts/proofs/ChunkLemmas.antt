@@ -1,6 +1,5 @@
 -- The chunks of a text: the first one, and those of the rest.
-use Rattle.std.proofs.lemmas.Grind.{common_steps}
-use Rattle.hash_cuts.proofs.Common.{◌≡◌, ℕ, zero, suc, ◌<◌, ◌≤◌, List, [], ◌∷◌, length, take, drop, arith, ap, refl, cases_lt, AreSizes, Cutting, chunks, chunks_upto, first_cut, length-drop, nat_tests}
+use Rattle.hash_cuts.proofs.Common.{◌≡◌, ℕ, zero, suc, ◌<◌, ◌≤◌, List, [], ◌∷◌, length, take, drop, arith, ap, refl, cases_lt, AreSizes, Cutting, chunks, chunks_upto, first_cut, length-drop, nat_tests, common_steps}
 use Rattle.hash_cuts.proofs.CutLemmas.{first_cut-is, latest}
 
 module _ (cuts : Cutting) (sizes : AreSizes cuts.least cuts.average cuts.most) where

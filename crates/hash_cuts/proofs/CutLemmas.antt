@@ -1,7 +1,5 @@
 -- Where the first chunk of a text ends, by which places are cuts.
-use Rattle.std.proofs.lemmas.Grind.{common_steps}
-use Rattle.std.proofs.Common.{rules}
-use Rattle.hash_cuts.proofs.Common.{◌≡◌, ℕ, ◌+◌, ◌-◌, ◌*◌, ◌/◌, ◌^◌, ◌<◌, ◌≤◌, Bool, true, false, not, nat_lt, min, List, length, get_or, take, drop, arith, lit<, ap, subst, sym, ◌∙◌, div-lt_iff_lt-mul, get_or-take, cases_lt, not-false, not-true, nat_tests, prefix_len, range_with_len, Cutting, HasSizes, is_cut, first_cut, gear, gear_of, gear_step, get_or-drop, get_or-range_with_len, length-range_with_len, prefix_len-le-length, prefix_len_passes, prefix_len_stops}
+use Rattle.hash_cuts.proofs.Common.{◌≡◌, ℕ, ◌+◌, ◌-◌, ◌*◌, ◌/◌, ◌^◌, ◌<◌, ◌≤◌, Bool, true, false, not, nat_lt, min, List, length, get_or, take, drop, arith, lit<, ap, subst, sym, ◌∙◌, div-lt_iff_lt-mul, get_or-take, cases_lt, not-false, not-true, nat_tests, prefix_len, range_with_len, Cutting, HasSizes, is_cut, first_cut, gear, gear_of, gear_step, get_or-drop, get_or-range_with_len, length-range_with_len, prefix_len-le-length, prefix_len_passes, prefix_len_stops, common_steps, rules}
 use Rattle.hash_cuts.proofs.GearLemmas.{gear-more, gear-rolled}
 
 -- the end of the first chunk at the latest

@@ -1,6 +1,5 @@
 -- Where the chunks of a text end, written one after the other.
-use Rattle.std.proofs.lemmas.Grind.{common_steps}
-use Rattle.hash_cuts.proofs.Common.{◌≡◌, ℕ, ◌+◌, ◌<◌, ◌≤◌, ◌⊎◌, List, [], ◌∷◌, ◌++◌, length, take, drop, min, slice_set, sym, ap, ◌∙◌, arith, length-append, take-append_seam, drop-set-lt, take-append-drop, take_more_set, Cutting, HasSizes, chunk_ends, chunks, ends_from, first_cut, append_assoc, drop-drop, length-drop, length-set, length-take-le, nat_tests}
+use Rattle.hash_cuts.proofs.Common.{◌≡◌, ℕ, ◌+◌, ◌<◌, ◌≤◌, ◌⊎◌, List, [], ◌∷◌, ◌++◌, length, take, drop, min, slice_set, sym, ap, ◌∙◌, arith, length-append, take-append_seam, drop-set-lt, take-append-drop, take_more_set, Cutting, HasSizes, chunk_ends, chunks, ends_from, first_cut, append_assoc, drop-drop, length-drop, length-set, length-take-le, nat_tests, common_steps}
 use Rattle.hash_cuts.proofs.ChunkLemmas.{chunks-first, chunks-none, first_cut-le}
 
 -- so many ends are written, those up to a place of the text, and what stood behind them stands there still
@@ -12,9 +11,6 @@ pub record AreEnds (cuts : Cutting) (text old new : List ℕ) (count place : ℕ
   pub inside : place ≤ length text
 
 module _ (cuts : Cutting) (text old new : List ℕ) (count place : ℕ) (are : AreEnds cuts text old new count place) where
-  abbrev rest : List ℕ
-  rest = ends_from place (chunks cuts (drop place text))
-
   module _ (sizes : HasSizes cuts) (n : ℕ) (cut : n ≡ first_cut cuts (drop place text)) (left : place < length text) (room : count < length new) where
     n_in : n ≤ length (drop place text)
     n_in = omega (arith, cut, first_cut-le cuts sizes (drop place text))

@@ -1,7 +1,5 @@
 -- The gear hash of a text is the sum of its bytes' numbers, each times a power of two, so that of 64 bytes and more the last 64 count alone.
-use Rattle.std.proofs.lemmas.Grind.{common_steps}
-use Rattle.std.proofs.Common.{rules}
-use Rattle.hash_cuts.proofs.Common.{◌≡◌, ℕ, suc, ◌+◌, ◌-◌, ◌*◌, ◌%◌, ◌^◌, ◌<◌, ◌≤◌, List, [], ◌∷◌, ◌++◌, length, get_or, take, drop, reverse, ap, sym, ◌∙◌, arith, map, refl, pow-suc, drop-take, length-reverse, take-append-drop, map-append, reverse-reverse, reverse_onto, gear_step, gear_of, gear_at, drop-drop, get_or-drop, length-drop, length-take-le, mod_below, nat_tests}
+use Rattle.hash_cuts.proofs.Common.{◌≡◌, ℕ, suc, ◌+◌, ◌-◌, ◌*◌, ◌%◌, ◌^◌, ◌<◌, ◌≤◌, List, [], ◌∷◌, ◌++◌, length, get_or, take, drop, reverse, ap, sym, ◌∙◌, arith, map, refl, pow-suc, drop-take, length-reverse, take-append-drop, map-append, reverse-reverse, reverse_onto, gear_step, gear_of, gear_at, drop-drop, get_or-drop, length-drop, length-take-le, mod_below, nat_tests, common_steps, rules}
 use Rattle.hashers.specs.Sums.{digit_sum}
 use Rattle.hash_rounds.proofs.SumLemmas.{digit_sum-append}
 use Rattle.hashers.specs.Recurrence.{from_last, recurrence}

@@ -1,7 +1,5 @@
 -- Chunks that a sink was given, one after the other.
-use Rattle.std.proofs.lemmas.Grind.{common_steps}
-use Rattle.std.proofs.Common.{rules}
-use Rattle.hash_cuts.proofs.Common.{◌≡◌, ℕ, ◌+◌, ◌-◌, ◌<◌, ◌≤◌, ◌⊎◌, List, [], ◌∷◌, ◌++◌, length, length-append, take, drop, Option, Some, None, inl, inr, arith, ap, subst, sym, ◌∙◌, refl, IsAtEnd, cases_lt, append-nil, drop-append-le, drop-take, take-append-drop, take-append-le, Cutting, HasSizes, chunks, first_cut, CutsAll, CutsRead, GivesFirst, IsBegun, Taken, Takes, append_assoc, Consumes-trans, length-drop, length-take, nat_tests}
+use Rattle.hash_cuts.proofs.Common.{◌≡◌, ℕ, ◌+◌, ◌-◌, ◌<◌, ◌≤◌, ◌⊎◌, List, [], ◌∷◌, ◌++◌, length, length-append, take, drop, Option, Some, None, inl, inr, arith, ap, subst, sym, ◌∙◌, refl, IsAtEnd, cases_lt, append-nil, drop-append-le, drop-take, take-append-drop, take-append-le, Cutting, HasSizes, chunks, first_cut, CutsAll, CutsRead, GivesFirst, IsBegun, Taken, Takes, append_assoc, Consumes-trans, length-drop, length-take, nat_tests, common_steps, rules}
 use Rattle.streams.specs.Records.{ComeFirst}
 use Rattle.streams.specs.Streams.{ReadsBehind}
 use Rattle.streams.proofs.RecordLemmas.{first_all, first_behind, first_both, first_none}

@@ -1,7 +1,5 @@
 -- The chunks joined are the text, a chunk depends on its own bytes, and chunks that begin at one place of two texts are the same.
-use Rattle.std.proofs.lemmas.Grind.{common_steps}
-use Rattle.std.proofs.Common.{rules}
-use Rattle.hash_cuts.proofs.Common.{◌≡◌, ◌≢◌, ℕ, zero, suc, ◌-◌, ◌*◌, ◌^◌, ◌<◌, ◌≤◌, nat_lt, List, [], ◌∷◌, ◌++◌, length, length-append, take, drop, inl, inr, arith, ap, sym, ◌∙◌, refl, ap₂, All, concat, cases_lt, drop-append-le, take-append-drop, take-append-le, nil_from_length, take-append_seam, drop-append_seam, Cutting, HasSizes, chunks, chunks_upto, first_cut, is_cut, gear, gear_of, append_assoc, length-drop, length-take-le, All-nil, All-cons, nat_tests}
+use Rattle.hash_cuts.proofs.Common.{◌≡◌, ◌≢◌, ℕ, zero, suc, ◌-◌, ◌*◌, ◌^◌, ◌<◌, ◌≤◌, nat_lt, List, [], ◌∷◌, ◌++◌, length, length-append, take, drop, inl, inr, arith, ap, sym, ◌∙◌, refl, ap₂, All, concat, cases_lt, drop-append-le, take-append-drop, take-append-le, nil_from_length, take-append_seam, drop-append_seam, Cutting, HasSizes, chunks, chunks_upto, first_cut, is_cut, gear, gear_of, append_assoc, length-drop, length-take-le, All-nil, All-cons, nat_tests, common_steps, rules}
 use Rattle.hash_cuts.proofs.ChunkLemmas.{chunks-first, chunks-none, first_cut-le, first_cut-some}
 use Rattle.hash_cuts.proofs.CutLemmas.{first_cut-is, first_cut-from, latest}
 

@@ -1,6 +1,5 @@
 -- Where the chunks of joined lists end, and those behind a chunk's end.
-use Rattle.std.proofs.lemmas.Grind.{common_steps}
-use Rattle.hash_cuts.proofs.Common.{◌≡◌, ℕ, ◌+◌, List, [], ◌∷◌, ◌++◌, length, length-append, map, get_or, drop, take, refl, arith, ap, ap₂, sym, ◌∙◌, concat, take-append_seam, Cutting, HasSizes, chunk_ends, chunks, ends_from, nat_tests}
+use Rattle.hash_cuts.proofs.Common.{◌≡◌, ℕ, ◌+◌, List, [], ◌∷◌, ◌++◌, length, length-append, map, get_or, drop, take, refl, arith, ap, ap₂, sym, ◌∙◌, concat, take-append_seam, Cutting, HasSizes, chunk_ends, chunks, ends_from, nat_tests, common_steps}
 use Rattle.std.proofs.lemmas.List.Folds.{concat-append}
 use Rattle.hash_cuts.proofs.InStep.{behind, chunks-joined}
 

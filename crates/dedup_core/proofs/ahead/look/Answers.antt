@@ -1,4 +1,4 @@
-use Rattle.std.proofs.lemmas.Bool.Decides.{nat_tests}
+use Rattle.dedup_core.proofs.Common.{nat_tests}
 use Rattle.dedup_core.proofs.Lemmas.{arith, take_more_set, behind, behind_more, behind_within, found_more, common_steps}
 use Rattle.dedup_core.proofs.ahead.look.Goals as goal
 

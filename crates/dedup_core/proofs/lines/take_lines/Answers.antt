@@ -1,4 +1,4 @@
-use Rattle.std.proofs.lemmas.Bool.Decides.{nat_tests}
+use Rattle.dedup_core.proofs.Common.{nat_tests}
 use Rattle.dedup_core.proofs.Lemmas.{ℕ, List, [], arith, rules, common_steps, first_strip, on_err, leads_both, leads_nowhere, splits_both, splits_line, splits_nowhere, stands_on}
 use Rattle.dedup_core.proofs.lines.take_lines.Goals as goal
 

@@ -1,5 +1,4 @@
-use Rattle.std.proofs.lemmas.Bool.Decides.{nat_tests}
-use Rattle.dedup_core.proofs.Common.{ℕ, List, ◌≡◌, ◌≤◌, ◌∷◌, ◌++◌, [], length, ap, sym, subst, arith, strip_last, Appends-trans, as_line_by, line_with_end, line_without_end, on_err, part_behind, part_longer, rules, common_steps}
+use Rattle.dedup_core.proofs.Common.{ℕ, List, ◌≡◌, ◌≤◌, ◌∷◌, ◌++◌, [], length, ap, sym, subst, arith, strip_last, Appends-trans, as_line_by, line_with_end, line_without_end, on_err, part_behind, part_longer, rules, common_steps, nat_tests}
 use Rattle.std.proofs.lemmas.Result.{on_err_weaker, on_ok_weaker}
 use Rattle.dedup_core.proofs.lines.write_line.Goals as goal
 

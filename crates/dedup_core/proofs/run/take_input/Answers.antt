@@ -1,5 +1,4 @@
-use Rattle.std.proofs.lemmas.Bool.Decides.{nat_tests}
-use Rattle.std.proofs.KnownBytes.{Consumes-nil}
+use Rattle.dedup_core.proofs.Common.{nat_tests, Consumes-nil}
 use Rattle.dedup_core.proofs.Lemmas.{[], subst, sym, Keeps-refl, IsBare, on_err, bare_nothing, bare_rest, begins_all, breaks_before, breaks_behind, breaks_within, leads_both, leads_kept, leads_nowhere, reads_on, reads_to_end, reads_to_fault, splits_nowhere, stands_on, takes_on, bare_both, arith, rules, common_steps}
 use Rattle.dedup_core.proofs.run.take_input.Goals as goal
 

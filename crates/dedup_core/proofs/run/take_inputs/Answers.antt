@@ -1,4 +1,4 @@
-use Rattle.std.proofs.lemmas.Bool.Decides.{nat_tests}
+use Rattle.dedup_core.proofs.Common.{nat_tests}
 use Rattle.dedup_core.proofs.Lemmas.{◌<◌, true, false, length, sym, ◌∙◌, arith, rules, part_at_start, part_within, so_far_more, so_far_start, common_steps}
 use Rattle.std.proofs.Math.Bool.{and-false, and-true}
 use Rattle.dedup_core.proofs.run.take_inputs.Goals as goal

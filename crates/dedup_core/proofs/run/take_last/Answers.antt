@@ -1,4 +1,4 @@
-use Rattle.std.proofs.lemmas.Bool.Decides.{nat_tests}
+use Rattle.dedup_core.proofs.Common.{nat_tests}
 use Rattle.dedup_core.proofs.Lemmas.{sym, arith, eqb-false, bare_line, strip_bare, on_err, breaks_behind, leads_kept, common_steps}
 use Rattle.dedup_core.proofs.run.take_last.Goals as goal
 

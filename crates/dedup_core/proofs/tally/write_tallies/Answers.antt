@@ -1,4 +1,4 @@
-use Rattle.std.proofs.lemmas.Bool.Decides.{nat_tests}
+use Rattle.dedup_core.proofs.Common.{nat_tests}
 use Rattle.dedup_core.proofs.Lemmas.{arith, ◌∙◌, Appends-trans, drop_all, on_err, part_behind, part_longer, listed, listed_more, listed_told, common_steps}
 use Rattle.std.proofs.lemmas.List.{append-nil}
 use Rattle.dedup_core.proofs.tally.write_tallies.Goals as goal

@@ -1,5 +1,4 @@
-use Rattle.std.proofs.Common.{rules}
-use Rattle.hash_cuts.proofs.Common.{length-set}
+use Rattle.hash_cuts.proofs.Common.{length-set, rules}
 use Rattle.hash_cuts.proofs.gear.numbers_of.Goals as goal
 
 pub loop-byte-preserved : goal.loop-byte-preserved

@@ -1,5 +1,4 @@
-use Rattle.std.proofs.lemmas.Grind.{common_steps}
-use Rattle.hash_cuts.proofs.Common.{arith, nat_tests}
+use Rattle.hash_cuts.proofs.Common.{arith, nat_tests, common_steps}
 use Rattle.hash_cuts.proofs.GearLemmas.{gear-digits, gear-last}
 use Rattle.hash_cuts.proofs.laws.gear_is_a_sum.Goals as goal
 

@@ -1,5 +1,4 @@
-use Rattle.std.proofs.lemmas.Grind.{common_steps}
-use Rattle.hash_cuts.proofs.Common.{None, Some, refl, ◌<◌, ap, subst, sym, arith, OnOk, IsAtEnd, take_all, nat_tests}
+use Rattle.hash_cuts.proofs.Common.{None, Some, refl, ◌<◌, ap, subst, sym, arith, OnOk, IsAtEnd, take_all, nat_tests, common_steps}
 use Rattle.hash_cuts.proofs.CutLemmas.{first_cut-is}
 use Rattle.hash_cuts.proofs.GivenLemmas.{moved-front, reads-all, reads-first, reads-none, reads-refused}
 use Rattle.hash_cuts.proofs.reader.cut_reader_by.Goals as goal

@@ -1,5 +1,4 @@
-use Rattle.std.proofs.lemmas.Grind.{common_steps}
-use Rattle.hash_cuts.proofs.Common.{◌≡◌, ◌<◌, ◌-◌, ◌⊎◌, ℕ, List, length, take, drop, arith, first_cut, drop-drop, length-drop, take_all, nat_tests}
+use Rattle.hash_cuts.proofs.Common.{◌≡◌, ◌<◌, ◌-◌, ◌⊎◌, ℕ, List, length, take, drop, arith, first_cut, drop-drop, length-drop, take_all, nat_tests, common_steps}
 use Rattle.hash_cuts.proofs.ChunkLemmas.{first_cut-le}
 use Rattle.hash_cuts.proofs.CutLemmas.{first_cut-is}
 use Rattle.hash_cuts.proofs.GivenLemmas.{gives-more, gives-refused}

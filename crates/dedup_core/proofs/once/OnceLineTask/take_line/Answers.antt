@@ -1,4 +1,4 @@
-use Rattle.std.proofs.lemmas.Bool.Decides.{nat_tests}
+use Rattle.dedup_core.proofs.Common.{nat_tests}
 use Rattle.dedup_core.proofs.Lemmas.{false, refl, rules, true, Appends-nil, Keeps-refl, once_begins, on_err, breaks_before, is_there, not_there, stops_in_line, takes_line, arith, common_steps}
 use Rattle.dedup_core.proofs.once.OnceLineTask.take_line.Goals as goal
 

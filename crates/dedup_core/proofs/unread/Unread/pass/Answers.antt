@@ -1,4 +1,4 @@
-use Rattle.std.proofs.lemmas.Bool.Decides.{nat_tests}
+use Rattle.dedup_core.proofs.Common.{nat_tests}
 use Rattle.dedup_core.proofs.Lemmas.{arith, length-take, pass_more, common_steps}
 use Rattle.dedup_core.proofs.unread.Unread.pass.Goals as goal
 

@@ -1,5 +1,4 @@
-use Rattle.std.proofs.lemmas.Grind.{common_steps}
-use Rattle.hash_cuts.proofs.Common.{◌≡◌, ◌∷◌, ◌<◌, List, ℕ, length, take, drop, ap, sym, ◌∙◌, arith, cases_lt, false≢true, Decides-eqb, AreSizes, Cutting, chunks, first_cut, nat_tests}
+use Rattle.hash_cuts.proofs.Common.{◌≡◌, ◌∷◌, ◌<◌, List, ℕ, length, take, drop, ap, sym, ◌∙◌, arith, cases_lt, false≢true, Decides-eqb, AreSizes, Cutting, chunks, first_cut, nat_tests, common_steps}
 use Rattle.hash_cuts.proofs.ChunkLemmas.{chunks-first, chunks-none, first_cut-le}
 use Rattle.hash_cuts.proofs.cuts.ChunksIterator.next.Goals as goal
 

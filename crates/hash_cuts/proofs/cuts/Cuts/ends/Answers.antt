@@ -1,5 +1,4 @@
-use Rattle.std.proofs.lemmas.Grind.{common_steps}
-use Rattle.hash_cuts.proofs.Common.{◌-◌, length, drop, refl, ap, ◌∙◌, arith, first_cut, length-drop, take_all, nat_tests}
+use Rattle.hash_cuts.proofs.Common.{◌-◌, length, drop, refl, ap, ◌∙◌, arith, first_cut, length-drop, take_all, nat_tests, common_steps}
 use Rattle.hash_cuts.proofs.EndLemmas.{all_ends, ends_written, one_end_more}
 use Rattle.hash_cuts.proofs.cuts.Cuts.ends.Goals as goal
 

@@ -1,5 +1,4 @@
-use Rattle.std.proofs.lemmas.Grind.{common_steps}
-use Rattle.hash_cuts.proofs.Common.{◌≡◌, ◌≤◌, ◌-◌, drop, ap, arith, refl, Cutting, cutting, length-take, nat_tests}
+use Rattle.hash_cuts.proofs.Common.{◌≡◌, ◌≤◌, ◌-◌, drop, ap, arith, refl, Cutting, cutting, length-take, nat_tests, common_steps}
 use Rattle.hash_cuts.proofs.CutLemmas.{bytes-there, first_cut-from, rolled-on, rolled-on-four, rolled-to}
 use Rattle.hash_cuts.proofs.cuts.Cuts.first_cut.Goals as goal
 
