@@ -16,6 +16,8 @@ pub use denote.Ref.{Bor}
 pub use lib.Pointwise.{bytes_decides}
 pub use Rattle.std.specs.List.{AllByRecursion, list_any}
 pub use Rattle.hash_lines.specs.Sums.{is_named, name_in, width_in}
-pub use Rattle.std.proofs.lemmas.Bool.{cases_lt}
+pub use Rattle.std.proofs.lemmas.Bool.{cases_lt, and_parts}
 pub use Rattle.std.proofs.lemmas.List.Sums.{fold-append}
 pub use Rattle.hashers.specs.Reading.{cut}
+pub use Rattle.std.proofs.lemmas.Grind.{common_steps}
+pub use Rattle.streams.proofs.HexLemmas.{cases_Option, hex_value-hex, length-hex}

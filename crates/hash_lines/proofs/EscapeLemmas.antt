@@ -1,6 +1,5 @@
 -- Names with escapes.
-use Rattle.std.proofs.lemmas.Grind.{common_steps}
-use Rattle.hash_lines.proofs.Common.{◌≡◌, ◌≢◌, ℕ, ◌+◌, ◌<◌, List, [], ◌∷◌, ◌++◌, length, take, get_or, ap, sym, ◌∙◌, append_assoc, append-nil, arith, escape, escaped_byte, nat_tests, take_more}
+use Rattle.hash_lines.proofs.Common.{◌≡◌, ◌≢◌, ℕ, ◌+◌, ◌<◌, List, [], ◌∷◌, ◌++◌, length, take, get_or, ap, sym, ◌∙◌, append_assoc, append-nil, arith, escape, escaped_byte, nat_tests, take_more, common_steps}
 
 pub escape-append : (name more : List ℕ) → escape (name ++ more) ≡ escape name ++ escape more
 escape-append [] more = grind arith

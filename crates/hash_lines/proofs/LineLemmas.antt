@@ -1,6 +1,5 @@
 -- The parts of a line.
-use Rattle.std.proofs.lemmas.Grind.{common_steps}
-use Rattle.hash_lines.proofs.Common.{◌≡◌, ◌≢◌, ◌⊎◌, inl, inr, ℕ, suc, true, false, All, List, [], ◌∷◌, refl, ◌++◌, Option, Some, None, MatchOption, length, take, drop, codes, sym, ap, ◌∙◌, subst, append_assoc, arith, bytes_eq, ShowsNumber, ShowsTagged, ShowsUntagged, hex_value, append_cancel_left, length-append, All-head, All-tail, Bor, bytes_decides, rules, nat_tests}
+use Rattle.hash_lines.proofs.Common.{◌≡◌, ◌≢◌, ◌⊎◌, inl, inr, ℕ, suc, true, false, All, List, [], ◌∷◌, refl, ◌++◌, Option, Some, None, MatchOption, length, take, drop, codes, sym, ap, ◌∙◌, subst, append_assoc, arith, bytes_eq, ShowsNumber, ShowsTagged, ShowsUntagged, hex_value, append_cancel_left, length-append, All-head, All-tail, Bor, bytes_decides, rules, nat_tests, common_steps}
 use Rattle.std.proofs.Math.Seq.{take-append_seam, drop-append_seam}
 
 -- two texts with the first byte behind them of which P does not hold are cut at the same place

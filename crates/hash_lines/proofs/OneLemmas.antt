@@ -1,8 +1,7 @@
 -- A line shows one name and number, and so tells one thing.
-use Rattle.hash_lines.proofs.Common.{◌≡◌, ◌≢◌, ◌⊎◌, inl, inr, ℕ, ◌+◌, ◌*◌, ◌<◌, Bool, true, false, List, [], ◌∷◌, ◌++◌, Some, None, length, get_or, codes, refl, ap, sym, ◌∙◌, subst, arith, lit<, AreTags, IsTag, Tells, digits_of, name_shown, ShowsTagged, ShowsUntagged, escape, digit_value, hex_value, value_behind, Sum, nat_tests, All-from_recursion, AllByRecursion, name_in, width_in}
+use Rattle.hash_lines.proofs.Common.{◌≡◌, ◌≢◌, ◌⊎◌, inl, inr, ℕ, ◌+◌, ◌*◌, ◌<◌, Bool, true, false, List, [], ◌∷◌, ◌++◌, Some, None, length, get_or, codes, refl, ap, sym, ◌∙◌, subst, arith, lit<, AreTags, IsTag, Tells, digits_of, name_shown, ShowsTagged, ShowsUntagged, escape, digit_value, hex_value, value_behind, Sum, nat_tests, All-from_recursion, AllByRecursion, name_in, width_in, cases_Option}
 use Rattle.hash_lines.specs.declared.line.Width.{Width}
 use Rattle.hash_lines.specs.declared.line.Width.TheVariants as width
-use Rattle.streams.proofs.HexLemmas.{cases_Option}
 use Rattle.hash_lines.proofs.EscapeLemmas.{first_rest, first_same, nothing_first}
 use Rattle.hash_lines.proofs.LineLemmas.{first_one, front_digits, inner_is, last_is, same_begins, tagged_shown, untagged_shown}
 use Rattle.hash_lines.proofs.ShownLemmas.{ShowsBody, ShowsLine, line_shows}

@@ -1,7 +1,5 @@
 -- Kinds whose names are tags.
-use Rattle.std.proofs.lemmas.Grind.{common_steps}
-use Rattle.hash_lines.proofs.Common.{◌≡◌, ◌⊎◌, inl, inr, ℕ, zero, suc, ◌||◌, not, Bool, true, List, [], ◌∷◌, refl, ap, sym, ◌∙◌, arith, Contains, map, bytes_eq, AreTags, IsTag, are_tags, is_tag, Sum, nat_tests, list_any, name_in}
-use Rattle.std.proofs.lemmas.Bool.{and_parts}
+use Rattle.hash_lines.proofs.Common.{◌≡◌, ◌⊎◌, inl, inr, ℕ, zero, suc, ◌||◌, not, Bool, true, List, [], ◌∷◌, refl, ap, sym, ◌∙◌, arith, Contains, map, bytes_eq, AreTags, IsTag, are_tags, is_tag, Sum, nat_tests, list_any, name_in, common_steps, and_parts}
 use Rattle.std.proofs.lemmas.Slice.Eq.{bytes_eq-Decides}
 use Rattle.std.proofs.lemmas.List.Folds.{list_any_at}
 

@@ -1,9 +1,7 @@
 -- What a line tells, or does not.
-use Rattle.std.proofs.lemmas.Grind.{common_steps}
-use Rattle.hash_lines.proofs.Common.{◌≡◌, inl, inr, ℕ, ◌<◌, ◌^◌, ◌&&◌, ◌++◌, refl, Bool, true, false, List, Option, Some, None, Finds, FindsShown, IsShown, MayBeTold, body, digits_of, line_of, mark, name_shown, needs_escape, hex, Sum, HashLine, name_in, width_in, arith, rules, nat_tests}
+use Rattle.hash_lines.proofs.Common.{◌≡◌, inl, inr, ℕ, ◌<◌, ◌^◌, ◌&&◌, ◌++◌, refl, Bool, true, false, List, Option, Some, None, Finds, FindsShown, IsShown, MayBeTold, body, digits_of, line_of, mark, name_shown, needs_escape, hex, Sum, HashLine, name_in, width_in, arith, rules, nat_tests, common_steps, hex_value-hex, length-hex}
 use Rattle.hash_lines.specs.declared.line.Form.{Form}
 use Rattle.hash_lines.specs.declared.line.Form.TheVariants as form
-use Rattle.streams.proofs.HexLemmas.{hex_value-hex, length-hex}
 use Rattle.hash_lines.proofs.ShownLemmas.{ShowsBody, ShowsLine}
 
 -- what is found of one line is found of another that tells just the same

@@ -1,5 +1,4 @@
-use Rattle.std.proofs.lemmas.Grind.{common_steps}
-use Rattle.hash_lines.proofs.Common.{nat_tests}
+use Rattle.hash_lines.proofs.Common.{nat_tests, common_steps}
 use Rattle.hash_lines.proofs.Lemmas.{arith, append_assoc, escape-take}
 use Rattle.hash_lines.proofs.escape.push_escaped.Goals as goal
 

@@ -1,5 +1,4 @@
-use Rattle.std.proofs.lemmas.Grind.{common_steps}
-use Rattle.hash_lines.proofs.Common.{nat_tests}
+use Rattle.hash_lines.proofs.Common.{nat_tests, common_steps}
 use Rattle.hash_lines.proofs.Lemmas.{rules, no_name, escape_more, arith}
 use Rattle.hash_lines.proofs.escape.unescaped.Goals as goal
 

@@ -1,5 +1,4 @@
-use Rattle.std.proofs.lemmas.Grind.{common_steps}
-use Rattle.hash_lines.proofs.Common.{nat_tests}
+use Rattle.hash_lines.proofs.Common.{nat_tests, common_steps}
 use Rattle.hash_lines.proofs.Lemmas.{front_is, told_apart, arith}
 use Rattle.hash_lines.proofs.parse.behind.Goals as goal
 

@@ -1,5 +1,4 @@
-use Rattle.std.proofs.lemmas.Grind.{common_steps}
-use Rattle.hash_lines.proofs.Common.{◌≡◌, ◌+◌, ◌*◌, ◌/◌, ◌%◌, ◌≤◌, ◌∷◌, [], ◌++◌, inl, inr, length, length-drop, length-take-le, take, drop, ap, ◌∙◌, arith, take-add, div-add-mod', cases_lt, fold-append, cut, nat_tests}
+use Rattle.hash_lines.proofs.Common.{◌≡◌, ◌+◌, ◌*◌, ◌/◌, ◌%◌, ◌≤◌, ◌∷◌, [], ◌++◌, inl, inr, length, length-drop, length-take-le, take, drop, ap, ◌∙◌, arith, take-add, div-add-mod', cases_lt, fold-append, cut, nat_tests, common_steps}
 use Rattle.std.proofs.Math.Nat.{add-mod_right}
 use Rattle.hashers.proofs.ReadingLemmas.{cut_more}
 use Rattle.hash_lines.proofs.sums.in_pieces.Goals as goal
