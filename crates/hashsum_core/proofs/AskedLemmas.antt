@@ -1,5 +1,6 @@
 -- The hash that a call asks for.
-use Rattle.hashsum_core.proofs.Common.{if◌then◌else◌, ◌≡◌, inl, inr, ℕ, zero, suc, Bool, true, false, List, [], ◌∷◌, map, fold, codes, Option, Some, None, IsSome, Contains, refl, sym, ap, ◌∙◌, subst, arith, to_ascii_lowercase, false≢true, or_left, or_right, bytes_decides, Sum, Tells, Saying, given, value_after, value_of, Opens, is_named, kind_of, kinds, poly61_at_both, siphash24_at, sum_of, find, TellsAny, asked, asks_for, asks_for_keyed, asks_for_poly61, asks_for_siphash24, is_by_name, key_file, key_rule, misuse_of, GivesKeys, HasEndedWell, AreKeysFor, ArePoly61Keys, MayBeKeys, sum_under, name_in}
+use Rattle.std.proofs.lemmas.Grind.{common_steps}
+use Rattle.hashsum_core.proofs.Common.{if◌then◌else◌, ◌≡◌, inl, inr, ℕ, zero, suc, Bool, true, false, List, [], ◌∷◌, fold, codes, Option, Some, None, IsSome, Contains, refl, sym, ap, ◌∙◌, subst, arith, false≢true, or_left, or_right, Sum, Tells, Saying, given, value_after, value_of, Opens, is_named, kind_of, kinds, poly61_at_both, siphash24_at, sum_of, find, TellsAny, asked, asks_for, asks_for_keyed, asks_for_poly61, asks_for_siphash24, is_by_name, key_file, key_rule, misuse_of, GivesKeys, HasEndedWell, AreKeysFor, ArePoly61Keys, MayBeKeys, sum_under, name_in, nat_tests}
 use Rattle.cli.specs.Call.Saying.{Gives, Operand, Errs}
 use Rattle.hashsum_core.specs.declared.keys.KeyRule.{KeyRule}
 use Rattle.hashsum_core.specs.declared.keys.KeyRule.TheVariants.{Any, Poly61}
@@ -84,11 +85,7 @@ keys_given opens call rule no_misuse asks keys are =
 
 -- poly61 and siphash24 have two names
 not_both : (call : List Saying) → asks_for_poly61 call ≡ true → asks_for_siphash24 call ≡ false
-not_both call asks = at (asked call) asks
-  where
-    at : (word : Option (List ℕ)) → is_by_name (codes "poly61") word ≡ true → is_by_name (codes "siphash24") word ≡ false
-    at None is = refl
-    at (Some word) is = rw (← (bytes_decides (map to_ascii_lowercase (codes "poly61")) (map to_ascii_lowercase word)).0 is)
+not_both call asks = grind (arith, nat_tests, common_steps)
 
 pub under_poly61 : (opens : Opens) (call : List Saying) → asks_for_poly61 call ≡ true → (ended : HasEndedWell opens call)
     → (keys : ℕ × ℕ) × GivesKeys opens call keys × ArePoly61Keys keys × (sum_under ended.keys ended.kind ≡ poly61_at_both keys)

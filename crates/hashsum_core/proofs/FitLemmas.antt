@@ -1,12 +1,12 @@
 -- Each hash of the table is below 2 to the power of its bits.
-use Rattle.hashsum_core.proofs.Common.{ℕ, zero, suc, ◌*◌, ◌/◌, ◌%◌, ◌^◌, ◌<◌, List, [], ◌∷◌, length, slice_index, fold, map, take, drop, All, refl, arith, lit<, All-drop, All-head, All-tail, All-take, mod_below, pow_pos, xor_lt, AreTwoWords, lookup3_answer, lookup3_from, lookup3-AreTwoWords, IsText}
+use Rattle.std.proofs.lemmas.Grind.{common_steps}
+use Rattle.hashsum_core.proofs.Common.{ℕ, ◌*◌, ◌^◌, ◌<◌, List, [], ◌∷◌, length, slice_index, fold, map, take, drop, All, arith, lit<, All-drop, All-head, All-tail, All-take, mod_below, pow_pos, xor_lt, AreTwoWords, lookup3_answer, lookup3_from, lookup3-AreTwoWords, IsText, rules, nat_tests}
 use Rattle.hash_words.specs.Words.{le}
 use Rattle.hash_words.specs.Pieces.{pieces}
 use Rattle.hash_words.proofs.ByteLemmas.{le-few}
 use Rattle.hash_words.proofs.XorshiftLemmas.{xorshift-lt}
 use Rattle.hash_laws.specs.TextLaws.{IsByte}
 use Rattle.hash_blocks.specs.Blocks.{blocks, tail}
-use Rattle.hash_blocks.specs.BlocksLaws.{tail-lt}
 use Rattle.hash_theorems.specs.BlockFacts.{IsBlock}
 use Rattle.hash_theorems.proofs.BackLemmas.{pieces-blocks}
 use Rattle.hash_rounds.proofs.RoundLemmas.{AreFourWords}
@@ -46,20 +46,11 @@ lookup3_pieces n text (i ∷ places) s are is =
 -- ---- SipHash
 
 four_in : (a b c d : ℕ) → a < 2 ^ 64 → b < 2 ^ 64 → c < 2 ^ 64 → d < 2 ^ 64 → AreFourWords (a ∷ b ∷ c ∷ d ∷ [])
-four_in a b c d a_in b_in c_in d_in = (refl, below) where
-  below : (i : ℕ) → slice_index (a ∷ b ∷ c ∷ d ∷ []) i < 2 ^ 64
-  below zero = a_in
-  below (suc zero) = b_in
-  below (suc (suc zero)) = c_in
-  below (suc (suc (suc zero))) = d_in
-  below (suc (suc (suc (suc i)))) = pow_pos 64
+four_in a b c d a_in b_in c_in d_in = grind (arith, nat_tests, common_steps, pow_pos)
 
 word_in : (c : ℕ) (v : List ℕ) (word : ℕ) → AreFourWords v → word < 2 ^ 64 → AreFourWords (sip.after_word c v word)
 unfolding sip.after_word
-word_in c v word are below =
-    let none = pow_pos 64 in
-    xored-in word 0 0 0 (sip.rounds c (sip.xored 0 0 0 word v))
-    (rounds-in c (sip.xored 0 0 0 word v) (xored-in 0 0 0 word v are none none none below)) below none none none
+word_in c v word are below = grind (arith, nat_tests, common_steps, pow_pos, xored-in, rounds-in)
 
 blocks_in : (c : ℕ) (v : List ℕ) (pieces_of : List (List ℕ)) → AreFourWords v → All (IsBlock 8) pieces_of
     → AreFourWords (fold (sip.after_block c) v pieces_of)
@@ -77,16 +68,11 @@ folded_below v are =
 
 last_below : (left : List ℕ) (total : ℕ) → IsText left → length left < 8 → sip.last_word left total < 2 ^ 64
 unfolding sip.last_word
-last_below left total is few =
-    let low : le left < 256 ^ 7 = le-few 7 left is (omega (arith, few)) in
-    let high : total % 256 < 256 = mod_below total 256 (lit< tt) in
-    omega (arith, low, high)
+last_below left total is few = grind (arith, nat_tests, common_steps, le-few, mod_below)
 
 start_in : (k0 k1 : ℕ) → k0 < 2 ^ 64 → k1 < 2 ^ 64 → AreFourWords (sip.start k0 k1)
 unfolding sip.start
-start_in k0 k1 first second =
-    four_in _ _ _ _ (xor_lt 64 k0 _ first (lit< tt)) (xor_lt 64 k1 _ second (lit< tt)) (xor_lt 64 k0 _ first (lit< tt))
-    (xor_lt 64 k1 _ second (lit< tt))
+start_in k0 k1 first second = search (rules, four_in, xor_lt)
 
 pub siphash_below : (c d k0 k1 : ℕ) (text : List ℕ) → k0 < 2 ^ 64 → k1 < 2 ^ 64 → IsText text → sip.siphash c d k0 k1 text < 2 ^ 64
 unfolding blocks tail
@@ -94,8 +80,4 @@ siphash_below c d k0 k1 text first second is =
     let v = blocks 8 (sip.after_block c) (sip.start k0 k1) text in
     let v_in : AreFourWords v =
     blocks_in c (sip.start k0 k1) (pieces 8 text) (start_in k0 k1 first second) (pieces-blocks 8 (lit< tt) text is) in
-    let left : IsText (tail 8 text) = All-drop IsByte (length text / 8 * 8) text is in
-    let last = sip.last_word (tail 8 text) (length text) in
-    let end_in = word_in c v last v_in (last_below (tail 8 text) (length text) left (tail-lt 8 (lit< tt) text)) in
-    let flipped = xored-in 0 0 0xff 0 (sip.after_word c v last) end_in (pow_pos 64) (pow_pos 64) (lit< tt) (pow_pos 64) in
-    folded_below _ (rounds-in d (sip.xored 0 0 0xff 0 (sip.after_word c v last)) flipped)
+    grind (arith, nat_tests, common_steps, All-drop, word_in, last_below, xored-in, pow_pos, folded_below, rounds-in)

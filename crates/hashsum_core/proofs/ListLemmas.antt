@@ -1,5 +1,6 @@
 -- Lists whose lines are checked.
-use Rattle.hashsum_core.proofs.Common.{◌≡◌, inl, inr, ℕ, true, List, [], ◌∷◌, ◌++◌, length, Option, Some, None, Ok, Err, refl, ap, sym, ◌∙◌, subst, arith, Keeps-refl, nat_tests, fold-append, IsAtEnd, Sum, Failure, Nothing, Opens, lines_by, ReadsNext, append_assoc, append-nil, counted, counts_of, said_of, uncounted, AreFirstLines, AreLines, EndsLine, EndsList, IsLineCheckOf, Checking, LineCheck, AreTold, Counts}
+use Rattle.std.proofs.lemmas.Grind.{common_steps}
+use Rattle.hashsum_core.proofs.Common.{◌≡◌, inl, inr, ℕ, true, List, [], ◌∷◌, ◌++◌, length, Option, Some, None, Ok, Err, refl, ap, sym, ◌∙◌, subst, arith, Keeps-refl, nat_tests, fold-append, IsAtEnd, Sum, Failure, Nothing, Opens, lines_by, ReadsNext, append_assoc, append-nil, counted, counts_of, said_of, uncounted, AreFirstLines, AreLines, EndsLine, EndsList, IsLineCheckOf, Checking, LineCheck, AreTold, Counts, rules}
 use Rattle.std.specs.Io.BufRead.{drop_through, take_through}
 use Rattle.cli.proofs.ToldLemmas.{told_next, told_start, torn_kept, torn_within}
 
@@ -20,22 +21,13 @@ pub lines_more : (held here left : Option (List ℕ)) (lines : List (List ℕ)) 
 lines_more None here left lines line are next = tt
 lines_more (Some text) None left lines line (rest, is, are) next = cc
 lines_more (Some text) (Some []) left lines line (rest, is, are) next = absurd (omega (arith, next.some, ap length next.next.0))
-lines_more (Some text) (Some (byte ∷ more)) left lines line (rest, is, are) next =
-    let same : rest ≡ byte ∷ more = cc in (
-      drop_through 10 (byte ∷ more),
-      next.next.1,
-      append_assoc lines (line ∷ []) (lines_by 10 (drop_through 10 (byte ∷ more)))
-          ∙ ap (λ l. lines ++ (l ∷ lines_by 10 (drop_through 10 (byte ∷ more)))) next.next.0
-          ∙ ap (λ ls. lines ++ ls) (sym (next_first byte more)) ∙ ap (λ t. lines ++ lines_by 10 t) (sym same) ∙ are,
-    )
+lines_more (Some text) (Some (byte ∷ more)) left lines line (rest, is, are) next = search (rules, append_assoc, next_first)
 
 -- the lines, where nothing is left
 pub all_lines : (held left : Option (List ℕ)) (lines : List (List ℕ)) → AreFirstLines held lines left → IsAtEnd left → AreLines held lines
 all_lines None left lines are end = tt
 all_lines (Some text) None lines (rest, is, are) end = cc
-all_lines (Some text) (Some bytes) lines (rest, is, are) end =
-    let none : rest ≡ [] = let same : bytes ≡ rest = cc in sym same ∙ end in
-    sym (append-nil lines) ∙ ap (λ t. lines ++ lines_by 10 t) (sym none) ∙ are
+all_lines (Some text) (Some bytes) lines (rest, is, are) end = grind (arith, nat_tests, common_steps, append-nil)
 
 -- what came of the first lines is written and counted
 abbrev pub SoFar : List Sum → Checking → Opens → (list : List ℕ) (left left' written written' : Option (List ℕ))
@@ -94,13 +86,7 @@ torn_off kinds checking opens list left here left' written between written' coun
 -- nothing is read or written
 pub list_torn_off : (kinds : List Sum) (checking : Checking) (opens : Opens) (list : List ℕ) (left written : Option (List ℕ))
     (fault : Failure Nothing) → EndsList kinds checking opens list left written written (Err fault)
-list_torn_off kinds checking opens list left written fault = (
-  [],
-  left,
-  no_lines left,
-  torn_kept (λ line. line.0) (IsLineCheckOf kinds checking opens list) (said_of checking) (λ line. true) [] [] [] [] written written written true
-      (told_start (λ line. line.0) (IsLineCheckOf kinds checking opens list) (said_of checking) (λ line. true) written) (Keeps-refl written) refl,
-)
+list_torn_off kinds checking opens list left written fault = grind (arith, nat_tests, common_steps, no_lines left, Keeps-refl written)
 
 -- the whole list, where nothing is left
 pub list_ended : (kinds : List Sum) (checking : Checking) (opens : Opens) (list : List ℕ) (left here written written' : Option (List ℕ))

@@ -1,5 +1,6 @@
 -- Lists that pass.
-use Rattle.hashsum_core.proofs.Common.{◌≡◌, inl, inr, ◌⊎◌, ℕ, ◌<◌, suc, zero-lt-suc, arith, Bool, true, false, ◌&&◌, nat_lt, List, [], ◌∷◌, length, Option, Ok, All, refl, sym, ap, ◌∙◌, subst, fold, Any, nat_tests, and_parts, All-cons, All-nil, All-push, Sum, Opens, counted, passes, counts_of, uncounted, AreLines, AreListed, EndsListOf, Checking, fails, is_same, HasPassed, LineCheck, Counts, next_list, no_list}
+use Rattle.std.proofs.lemmas.Grind.{common_steps}
+use Rattle.hashsum_core.proofs.Common.{◌≡◌, inl, inr, ◌⊎◌, ℕ, ◌<◌, suc, zero-lt-suc, arith, Bool, true, false, ◌&&◌, nat_lt, List, [], ◌∷◌, Option, Ok, All, fold, Any, nat_tests, and_parts, All-cons, All-nil, All-push, Sum, Opens, counted, passes, counts_of, AreListed, EndsListOf, Checking, fails, is_same, HasPassed, LineCheck, Counts, next_list, no_list, rules}
 
 -- the counts behind others
 abbrev after : Counts → List (List ℕ × LineCheck) → Counts
@@ -30,39 +31,20 @@ some_same : (counts : Counts) (lines : List (List ℕ × LineCheck)) → 0 < (af
     → (0 < counts.same) ⊎ Any (λ line. is_same line.1 ≡ true) lines
 some_same counts [] some = inl some
 some_same counts (line ∷ lines) some = elim (some_same (counted counts line.1) lines some) [
-  | inl more ↦ elim (same_before counts line.1 more) [
-    | inl before ↦ inl before
-    | inr is ↦ inr (0, line, zero-lt-suc (length lines), refl, is)
-  ]
+  | inl more ↦ grind (arith, nat_tests, common_steps, same_before, zero-lt-suc)
   | inr later ↦ (let (k, x, below, is, holds) = later in inr (suc k, x, omega (arith, below), is, holds))
 ]
 
 -- lines whose counts pass
 lines_pass : (strict : Bool) (lines : List (List ℕ × LineCheck)) → passes strict (counts_of lines) ≡ true
     → All (λ line. fails strict line.1 ≡ false) lines × Any (λ line. is_same line.1 ≡ true) lines
-lines_pass strict lines is =
-    let none : NoneCounted strict (counts_of lines) = grind (arith, nat_tests, is) in
-    let some : 0 < (counts_of lines).same = grind (arith, nat_tests, is) in (
-      (none_fails strict uncounted lines none).0,
-      elim (some_same uncounted lines some) [
-        | inl before ↦ absurd (omega (arith, before))
-        | inr one ↦ one
-      ],
-    )
+lines_pass strict lines is = search (rules, none_fails, some_same)
 
 module _ (kinds : List Sum) (checking : Checking) (opens : Opens) where
   list_passed : (list : List ℕ) (w w' : Option (List ℕ)) → EndsListOf kinds checking opens list w w' (Ok true)
       → HasPassed kinds checking opens list
   list_passed list w w' (inl (held, can, inl (counts, (lines, are, told, are_told, counts_are), is))) =
-      let (well, some) = lines_pass checking.strict told (sym (is ∙ ap (λ c. passes checking.strict c) counts_are)) in record {
-        held = held;
-        opened = can;
-        lines = told;
-        are_lines = subst (λ ls. AreLines held ls) (sym are_told.names_are) are;
-        came = are_told.each;
-        none_fails = well;
-        some_is_same = some;
-      }
+      grind (arith, nat_tests, common_steps, lines_pass, none_fails)
   list_passed list w w' (inl (held, can, inr (ends, is))) = cc
   list_passed list w w' (inr (error, can, kept, is)) = cc
 

@@ -1,5 +1,6 @@
 -- Checks that end well.
-use Rattle.hashsum_core.proofs.Common.{◌≡◌, inl, inr, ℕ, arith, true, false, Bool, if◌then◌else◌, List, codes, Option, Some, None, Result, Ok, Err, All, refl, sym, ap, ◌∙◌, subst, error_kind, Sum, Failure, Unwritten, Nothing, Opens, files_or, given, operands, Saying, kind_of, EndsLists, asked, checking_of, key_file, key_rule, misuse_of, summing_of, taken, work_by, work_of, EndsCall, EndsTask, EndsUnless, Checking, HasPassed, HasEndedWell, AreKeysFor, kinds}
+use Rattle.std.proofs.lemmas.Grind.{common_steps}
+use Rattle.hashsum_core.proofs.Common.{◌≡◌, inl, inr, ℕ, arith, true, false, Bool, if◌then◌else◌, List, codes, Option, Some, None, Result, Ok, Err, All, refl, ap, subst, error_kind, Sum, Failure, Unwritten, Nothing, Opens, files_or, given, operands, Saying, kind_of, asked, checking_of, key_file, key_rule, misuse_of, summing_of, taken, work_by, work_of, EndsCall, EndsTask, EndsUnless, Checking, HasPassed, HasEndedWell, AreKeysFor, kinds, nat_tests}
 use Rattle.std.specs.declared.io.ErrorKind.{ErrorKind}
 use Rattle.cli.specs.Outcome.{of_run, status_of, write_status}
 use Rattle.cli.specs.declared.outcome.Outcome.{Outcome}
@@ -7,7 +8,7 @@ use Rattle.hashsum_core.proofs.PassLemmas.{lists_passed}
 use Rattle.hashsum_core.specs.declared.outcome.Misuse.{Misuse}
 use Rattle.hashsum_core.specs.declared.outcome.Task.TheVariants.{Check}
 use Rattle.hashsum_core.specs.declared.outcome.Task.TheVariants as task
-use Rattle.cli.specs.Frame.{request_of, EndsRequest}
+use Rattle.cli.specs.Frame.{request_of}
 use Rattle.cli.specs.declared.frame.Request.TheVariants.{Work}
 use Rattle.cli.specs.declared.frame.Text.{Text}
 use Rattle.cli.specs.declared.outcome.Outcome.TheVariants.{Usage}
@@ -29,10 +30,7 @@ module _ (checking : Checking) (opens : Opens) where
   pub check_passed : (lists : List (List ℕ)) (w w' : Option (List ℕ)) (outcome : Outcome Misuse Nothing)
       → EndsTask opens lists w w' (Ok (Check checking)) outcome → status_of outcome ≡ 0
       → All (HasPassed (taken checking) checking opens) lists
-  check_passed lists w w' outcome (ended, ends, is) zero =
-      let well : ended ≡ Ok true = ends_well ended (sym (ap (λ o. status_of o) is) ∙ zero) in
-      lists_passed (taken checking) checking opens
-      (subst (λ e. EndsLists (taken checking) checking opens lists w w' e) well ends) refl
+  check_passed lists w w' outcome (ended, ends, is) zero = grind (arith, nat_tests, common_steps, ends_well, lists_passed)
 
 -- a call that ends well did its work
 module _ (opens : Opens) (call : List Saying) (w w' : Option (List ℕ)) (outcome : Outcome Misuse Nothing) where
@@ -71,6 +69,4 @@ module _ (opens : Opens) (call : List Saying) (w w' : Option (List ℕ)) (outcom
 
   pub call_passed : (texts : Text → List ℕ) → request_of call ≡ Work → given (codes "check") call ≡ true
       → EndsCall opens call texts w w' outcome → status_of outcome ≡ 0 → HasEndedWell opens call
-  call_passed texts works checks ended zero =
-      unless_passed works checks (misuse_of call) refl
-      (subst (λ r. EndsRequest r texts (EndsUnless (misuse_of call) opens call w w') (Unit {0}) w w' outcome) works ended) zero
+  call_passed texts works checks ended zero = grind (arith, nat_tests, common_steps, unless_passed)

@@ -1,5 +1,6 @@
 -- What a list that passed tells of a file is so.
-use Rattle.hashsum_core.proofs.Common.{◌≡◌, inl, inr, ℕ, suc, zero-lt-suc, ◌<◌, Bool, true, false, if◌then◌else◌, List, [], ◌∷◌, length, map, Option, Some, None, Result, Ok, Err, Contains, sym, ap, ◌∙◌, subst, arith, slice_index_or, error_kind, nat_tests, false≢true, get_or-map, length-map, Sum, AreTags, IsTag, Tells, lines_by, Opens, is_named, kind_of, find, is_itself, is_not_found, is_skipped, takes_sfv, verdict_on, IsLineCheck, bare, AreLines, taken, Checking, fails, HasHash, HasPassed, LineTells, ListTells, SumsFile, LineCheck, Unhashed, Unopened, name_in, kinds, sum_under}
+use Rattle.std.proofs.lemmas.Grind.{common_steps}
+use Rattle.hashsum_core.proofs.Common.{◌≡◌, inl, inr, ℕ, suc, zero-lt-suc, ◌<◌, Bool, true, false, if◌then◌else◌, List, [], ◌∷◌, length, map, Option, Some, None, Result, Ok, Err, Contains, sym, ap, ◌∙◌, subst, arith, slice_index_or, nat_tests, false≢true, get_or-map, length-map, Sum, AreTags, IsTag, Tells, lines_by, Opens, is_named, kind_of, find, is_itself, is_skipped, takes_sfv, verdict_on, IsLineCheck, bare, AreLines, taken, Checking, fails, HasHash, HasPassed, LineTells, ListTells, SumsFile, LineCheck, Unhashed, Unopened, name_in, kinds, sum_under, rules}
 use Rattle.hash_lines.specs.declared.parse.HashLine.{HashLine}
 use Rattle.hash_lines.proofs.OneLemmas.{line_one}
 use Rattle.hashsum_core.specs.declared.check.LineCheck.TheVariants.{Skipped, Improper, Checked}
@@ -13,12 +14,8 @@ module _ (kinds : List Sum) (checking : Checking) (opens : Opens) where
   of_came : (entry : HashLine) (kind : Sum) (name : List ℕ) (number : ℕ) (came : Result ℕ Unsummed)
       → fails checking.strict (Checked entry (verdict_on checking.ignore_missing number came)) ≡ false
       → SumsFile (opens name) (sum_under checking.keys kind) came → HasHash checking opens kind name number
-  of_came entry kind name number (Ok found) well (held, can, is) =
-      let same : found ≡ number = grind (arith, nat_tests, well) in
-      inl (held, can, rw same at is)
-  of_came entry kind name number (Err (Unopened error)) well cannot =
-      let gone : (checking.ignore_missing ≡ true) × (is_not_found (error_kind error) ≡ true) = grind (arith, well) in
-      inr (gone.0, error, cannot, gone.1)
+  of_came entry kind name number (Ok found) well (held, can, is) = grind (arith, nat_tests, common_steps)
+  of_came entry kind name number (Err (Unopened error)) well cannot = grind (arith, nat_tests, common_steps)
   of_came entry kind name number (Err (Unhashed why)) well cannot = absurd (false≢true (sym well))
 
   -- a line that tells this and does not fail its list
@@ -33,11 +30,7 @@ module _ (kinds : List Sum) (checking : Checking) (opens : Opens) where
     of_checked line entry verdict tells (unskipped, inl too, other, inr (has, (came, sums, is))) well =
         let (kinds_are, names_are, numbers_are) =
         line_one kinds checking.kind are kind entry.kind name entry.name.items number entry.number line tells too in
-        let there = of_came entry entry.kind entry.name.items entry.number came
-        (subst (λ v. fails checking.strict (Checked entry v) ≡ false) (sym is) well) sums in
-        subst (λ k. HasHash checking opens k name number) (sym kinds_are)
-        (subst (λ n. HasHash checking opens entry.kind n number) (sym names_are)
-        (subst (λ n. HasHash checking opens entry.kind entry.name.items n) (sym numbers_are) there))
+        search (rules, of_came)
 
     of_line : (line : List ℕ) (came : LineCheck) → Tells kinds checking.kind kind name number line → is_skipped (takes_sfv checking.kind list) line ≡ false
         → IsLineCheck kinds checking opens list line came → fails checking.strict came ≡ false → HasHash checking opens kind name number

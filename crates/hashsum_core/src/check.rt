@@ -1,7 +1,7 @@
 //! Whether files have the hashes that lines tell.
 ghost use Rattle.std.specs.Prelude.{◌≡◌, true, false, [], map, IfOk, MatchOption, OnOk};
 ghost use Rattle.std.specs.IoError.{error_kind};
-ghost use Rattle.hashsum_core.specs.Checking.{behind_name, counted, is_itself, is_not_found, is_skipped, lacks_keys, passes, said, takes_sfv, verdict_on, verdict_words, IsLineCheck, IsVerdict, IsVerdictBy, TellsAny, TellsNone};
+ghost use Rattle.hashsum_core.specs.Checking.{behind_name, counted, is_itself, is_not_found, is_skipped, lacks_keys, one_more, passes, said, takes_sfv, verdict_on, verdict_words, IsLineCheck, IsVerdict, IsVerdictBy, TellsAny, TellsNone};
 ghost use Rattle.hashsum_core.specs.Files.{sum_under};
 ghost use Rattle.hashsum_core.specs.Lists.{bare, unmarked, EndsLine, EndsList, EndsListOf, EndsLists};
 ghost use Rattle.std.specs.Io.Buffered.{writer_buffer, writer_contents};
@@ -102,37 +102,27 @@ pub fn passes(strict: bool, counts: &Counts) -> bool
         && !(strict && counts.improper > 0)
 }
 
+/// Adds one, up to the greatest number.
+fn add_one(count: &mut u64)
+    ensures { count.new ≡ one_more count.old }
+{
+    *count = count.saturating_add(1);
+}
+
 /// Counts what came of a line more.
-fn count(counts: Counts, came: &LineCheck) -> Counts
+fn count(mut counts: Counts, came: &LineCheck) -> Counts
     ensures { result ≡ counted counts came.now }
 {
     match came {
-        LineCheck::Skipped => counts,
-        LineCheck::Improper => Counts {
-            improper: counts.improper.saturating_add(1),
-            ..counts
-        },
-        LineCheck::Checked(_, Verdict::Same) => Counts {
-            same: counts.same.saturating_add(1),
-            ..counts
-        },
-        LineCheck::Checked(_, Verdict::Different) => Counts {
-            different: counts.different.saturating_add(1),
-            ..counts
-        },
-        LineCheck::Checked(_, Verdict::Unread) => Counts {
-            unread: counts.unread.saturating_add(1),
-            ..counts
-        },
-        LineCheck::Checked(_, Verdict::Missing) => Counts {
-            missing: counts.missing.saturating_add(1),
-            ..counts
-        },
-        LineCheck::Checked(_, Verdict::Unkeyed) => Counts {
-            unkeyed: counts.unkeyed.saturating_add(1),
-            ..counts
-        },
+        LineCheck::Skipped => {}
+        LineCheck::Improper => add_one(&mut counts.improper),
+        LineCheck::Checked(_, Verdict::Same) => add_one(&mut counts.same),
+        LineCheck::Checked(_, Verdict::Different) => add_one(&mut counts.different),
+        LineCheck::Checked(_, Verdict::Unread) => add_one(&mut counts.unread),
+        LineCheck::Checked(_, Verdict::Missing) => add_one(&mut counts.missing),
+        LineCheck::Checked(_, Verdict::Unkeyed) => add_one(&mut counts.unkeyed),
     }
+    counts
 }
 
 /// Whether an error tells that a file is not there.

@@ -107,6 +107,18 @@ pub fn passes(strict: bool, counts: &Counts) -> bool {
         && !(strict && counts.improper > 0)
 }
 
+/// Adds one, up to the greatest number.
+///
+/// Proved:
+///
+/// ```text
+/// count.new ≡ one_more count.old
+/// ```
+#[inline]
+fn add_one(count: &mut u64) {
+    *count = count.saturating_add(1);
+}
+
 /// Counts what came of a line more.
 ///
 /// Proved:
@@ -115,34 +127,17 @@ pub fn passes(strict: bool, counts: &Counts) -> bool {
 /// result ≡ counted counts came.now
 /// ```
 #[inline]
-fn count(counts: Counts, came: &LineCheck) -> Counts {
+fn count(mut counts: Counts, came: &LineCheck) -> Counts {
     match came {
-        LineCheck::Skipped => counts,
-        LineCheck::Improper => Counts {
-            improper: counts.improper.saturating_add(1),
-            ..counts
-        },
-        LineCheck::Checked(_, Verdict::Same) => Counts {
-            same: counts.same.saturating_add(1),
-            ..counts
-        },
-        LineCheck::Checked(_, Verdict::Different) => Counts {
-            different: counts.different.saturating_add(1),
-            ..counts
-        },
-        LineCheck::Checked(_, Verdict::Unread) => Counts {
-            unread: counts.unread.saturating_add(1),
-            ..counts
-        },
-        LineCheck::Checked(_, Verdict::Missing) => Counts {
-            missing: counts.missing.saturating_add(1),
-            ..counts
-        },
-        LineCheck::Checked(_, Verdict::Unkeyed) => Counts {
-            unkeyed: counts.unkeyed.saturating_add(1),
-            ..counts
-        },
+        LineCheck::Skipped => {}
+        LineCheck::Improper => add_one(&mut counts.improper),
+        LineCheck::Checked(_, Verdict::Same) => add_one(&mut counts.same),
+        LineCheck::Checked(_, Verdict::Different) => add_one(&mut counts.different),
+        LineCheck::Checked(_, Verdict::Unread) => add_one(&mut counts.unread),
+        LineCheck::Checked(_, Verdict::Missing) => add_one(&mut counts.missing),
+        LineCheck::Checked(_, Verdict::Unkeyed) => add_one(&mut counts.unkeyed),
     }
+    counts
 }
 
 /// Whether an error tells that a file is not there.

@@ -1,13 +1,10 @@
-use Rattle.hashsum_core.proofs.Common.{writer_contents}
+use Rattle.std.proofs.lemmas.Grind.{common_steps}
+use Rattle.hashsum_core.proofs.Common.{arith, nat_tests}
 use Rattle.hashsum_core.proofs.ListLemmas.{list_ended, so_far_more, so_far_start, torn_off}
 use Rattle.hashsum_core.proofs.check.check_lines.Goals as goal
 
 pub loop-number-init : goal.loop-number-init
-loop-number-init g c = record {
-  told = so_far_start c.args.kinds.now c.args.checking (g.F.Folder.opens c.args.folder.now) c.args.list.now
-      (g.B.Read.remaining c.args.lines.now) (writer_contents g.W.Write.contents c.args.w.now);
-  flushed = λ empty. empty;
-}
+loop-number-init g c = grind (arith, nat_tests, common_steps, so_far_start)
 
 pub returns-in-Err-tell_line-clause-told : goal.returns-in-Err-tell_line-clause-told
 returns-in-Err-tell_line-clause-told g c =

@@ -1,4 +1,5 @@
-use Rattle.hashsum_core.proofs.Common.{◌≢◌, ℕ, List, lit<, mod-lt, refl, codes, murmur3_128_of, Murmur3At32, Xxh32, number_named, kind_named}
+use Rattle.std.proofs.lemmas.Grind.{common_steps}
+use Rattle.hashsum_core.proofs.Common.{◌≢◌, ℕ, List, lit<, mod-lt, refl, codes, murmur3_128_of, Murmur3At32, Xxh32, number_named, kind_named, arith, nat_tests}
 use Rattle.hash_laws.specs.DifferWithin.{DifferInOneBlock}
 use Rattle.hash_blocks.specs.Murmur3x128.{murmur3_128}
 use Rattle.hashsum_core.proofs.KeyLemmas.{parts_are}
@@ -16,10 +17,7 @@ returns-clause-xxh32 g c =
 
 -- different words are different numbers
 words_show : (x y : List ℕ) → murmur3_128 0 x ≢ murmur3_128 0 y → murmur3_128_of x ≢ murmur3_128_of y
-words_show x y differ same =
-    let parts = parts_are (murmur3_128 0 x).0 (murmur3_128 0 x).1 (murmur3_128 0 y).0 (murmur3_128 0 y).1 (mod-lt _ (lit< tt))
-    (mod-lt _ (lit< tt)) same in
-    differ (λ i. (parts.0 i, parts.1 i))
+words_show x y differ same = grind (arith, nat_tests, common_steps, parts_are, mod-lt)
 
 pub returns-clause-murmur3_128 : goal.returns-clause-murmur3_128
 unfolding number_named kind_named

@@ -1,4 +1,5 @@
-use Rattle.hashsum_core.proofs.Common.{ℕ, List, [], ◌∷◌, ◌++◌, All, ap, sym, subst, All-cons, All-nil, DifferAtOnePlace, texts, Ported, FxHash, FxHash32, FxHash64, append-nil, DifferAtOneWord}
+use Rattle.std.proofs.lemmas.Grind.{common_steps}
+use Rattle.hashsum_core.proofs.Common.{ℕ, List, [], ◌∷◌, All, All-cons, All-nil, texts, Ported, FxHash, FxHash32, FxHash64, append-nil, DifferAtOneWord, arith, nat_tests}
 use denote.Bor.{Bor}
 use Rattle.hashers.specs.Fx.{words32, words64}
 use Rattle.hashers.specs.Pieces.{DifferByOneWord}
@@ -14,11 +15,7 @@ is_one : (text : List ℕ) → IsText text → All IsText (texts (piece text ∷
 is_one text is = All-cons IsText text [] is (All-nil IsText)
 
 one_word : (words : List ℕ → List ℕ) (x y : List ℕ) → DifferAtOneWord words x y → DifferByOneWord words (piece x ∷ []) (piece y ∷ [])
-one_word words x y (same, differ) = record {
-  same_cuts = ap (λ n. n ∷ []) same;
-  one_word = subst (λ t. DifferAtOnePlace t (words y ++ [])) (sym (append-nil (words x)))
-      (subst (λ t. DifferAtOnePlace (words x) t) (sym (append-nil (words y))) differ);
-}
+one_word words x y (same, differ) = grind (arith, nat_tests, common_steps, append-nil)
 
 pub returns-clause-fxhash : goal.returns-clause-fxhash
 returns-clause-fxhash g c =

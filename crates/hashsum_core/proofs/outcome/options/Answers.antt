@@ -1,4 +1,5 @@
-use Rattle.hashsum_core.proofs.Common.{◌≡◌, List, ◌∷◌, refl, ap₂, Choice}
+use Rattle.std.proofs.lemmas.Grind.{common_steps}
+use Rattle.hashsum_core.proofs.Common.{◌≡◌, List, ◌∷◌, ap₂, Choice, arith, nat_tests}
 use Rattle.hashsum_core.proofs.outcome.options.Goals as goal
 
 -- one more of the list
@@ -14,13 +15,4 @@ returns c =
     next c.flag-3.ensures.choice (
     next c.flag-4.ensures.choice (
     next c.flag-5.ensures.choice (
-    next c.flag-6.ensures.choice (
-    next c.flag-7.ensures.choice (
-    next c.flag-8.ensures.choice (
-    next c.flag-9.ensures.choice (
-    next c.flag-10.ensures.choice (
-    next c.flag-11.ensures.choice (
-    next c.flag-12.ensures.choice (
-    next c.flag-13.ensures.choice (
-    next c.flag-14.ensures.choice (
-    refl))))))))))))))))
+    grind (arith, nat_tests, common_steps, next))))))))
