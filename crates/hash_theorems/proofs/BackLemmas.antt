@@ -1,5 +1,5 @@
 -- Blocks taken back, and a text with one block in the middle.
-use Rattle.hash_theorems.proofs.BlockCommon.{◌≡◌, ◌≢◌, ℕ, ◌+◌, ◌*◌, ◌/◌, ◌%◌, ◌<◌, ◌≤◌, List, ◌++◌, length, take, drop, All, refl, sym, ap, ◌∙◌, arith, length-append, length-drop, ⊎_elim, ap₂, drop-drop, cases_eq, mod_below, All-take, All-drop, Undoes, first_chunks-pieces, part-same, rest-same, folded, told, IsText, IsByte, IsFirstDifference, DifferInOneBlock, blocks, blocks-append, blocks_one, tail-append, tail-lt, pieces, tail, blocks_before, IsBlock, IsLeft}
+use Rattle.hash_theorems.proofs.BlockCommon.{◌≡◌, ◌≢◌, ℕ, ◌+◌, ◌*◌, ◌/◌, ◌%◌, ◌<◌, ◌≤◌, List, ◌++◌, length, take, drop, All, refl, sym, ap, ◌∙◌, arith, length-append, length-drop, ⊎_elim, ap₂, drop-drop, cases_eq, mod_below, All-take, All-drop, Undoes, first_chunks-pieces, part-same, rest-same, folded, told, IsText, IsByte, IsFirstDifference, DifferInOneBlock, blocks, blocks-append, blocks_one, tail-append, tail-lt, pieces, tail, blocks_before, IsBlock, IsLeft, common_steps, nat_tests}
 use Rattle.std.proofs.Common.{div-mul-le_self, div-add-mod', take-append-drop, length-take-le}
 use Rattle.hash_laws.specs.Exactly.{ExactlyTexts}
 use Rattle.hash_laws.proofs.ExactlyLemmas.{Exactly-one}
@@ -83,9 +83,7 @@ module _ (n : ℕ) (some : 0 < n) where
         let below = rw e at (div-mul-le_self (0 + i) n) in omega (arith, i_in, below)))
 
     behind-same : behind ≡ drop (n + at) y
-    behind-same =
-        rest-same (n + at) x y differ.same_length (λ i. differ.one.1 (n + at + i) (λ (e : (n + at + i) / n ≡ differ.one.0).
-        let split = rw e at (div-add-mod' (n + at + i) n) in omega (arith, split, mod_below (n + at + i) n some)))
+    behind-same = grind (arith, nat_tests, common_steps, rest-same, div-add-mod', mod_below)
 
     pub ahead-is : IsText ahead × (length ahead ≡ at)
     ahead-is = (All-take IsByte at x xs, length-take-le at x (omega (arith, whole)))

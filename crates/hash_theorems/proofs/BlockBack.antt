@@ -1,5 +1,5 @@
 -- The blocks of XXH32 and XXH64 there and back: any four lanes are led to from four lanes by a block, and from no others.
-use Rattle.hash_theorems.proofs.BlockCommon.{◌≡◌, ℕ, ◌^◌, ◌<◌, List, [], ◌∷◌, slice_index, refl, sym, ◌∙◌, le_words}
+use Rattle.hash_theorems.proofs.BlockCommon.{◌≡◌, ℕ, ◌^◌, ◌<◌, List, [], ◌∷◌, slice_index, le_words, common_steps, nat_tests, arith}
 use Rattle.std.proofs.lemmas.List.FromFn.{fill_by_all}
 use Rattle.hash_rounds.proofs.RoundLemmas.{AreNWords}
 use Rattle.hash_blocks.specs.Xxh32 as at_32
@@ -13,13 +13,7 @@ use Rattle.hash_theorems.proofs.Steps64 as steps_64
 four-again : (w : ℕ) (f : ℕ → ℕ → ℕ) → ((lane word : ℕ) → lane < 2 ^ w → f lane word ≡ lane) → (s words : List ℕ) → AreNWords w 4 s
     → f (slice_index s 0) (slice_index words 0) ∷ f (slice_index s 1) (slice_index words 1) ∷ f (slice_index s 2) (slice_index words 2)
     ∷ f (slice_index s 3) (slice_index words 3) ∷ [] ≡ s
-four-again w f again s words s_in =
-    let one = λ (i : ℕ). again (slice_index s i) (slice_index words i) (s_in.1 i) in
-    let all : ◌≡◌ {A = List ℕ} (f (slice_index s 0) (slice_index words 0) ∷ f (slice_index s 1) (slice_index words 1)
-    ∷ f (slice_index s 2) (slice_index words 2) ∷ f (slice_index s 3) (slice_index words 3) ∷ [])
-    (slice_index s 0 ∷ slice_index s 1 ∷ slice_index s 2 ∷ slice_index s 3 ∷ []) =
-    λ i. one 0 i ∷ one 1 i ∷ one 2 i ∷ one 3 i ∷ [] in
-    all ∙ sym (fill_by_all (slice_index s) s 4 0 s_in.0 (λ k _. refl))
+four-again w f again s words s_in = grind (arith, nat_tests, common_steps, fill_by_all)
 
 module _ (lanes block : List ℕ) where
   pub there_32 : AreNWords 32 4 lanes → at_32.after_block (back_32.before_block lanes block) block ≡ lanes

@@ -1,5 +1,5 @@
 -- What the proofs of this crate share of std, of the crates below and of its own definitions, passed on from one place.
-pub use Rattle.std.proofs.Common.{◌≡◌, ◌≢◌, ℕ, ◌+◌, ◌*◌, ◌/◌, ◌%◌, ◌<◌, ◌≤◌, List, ◌++◌, length, take, drop, All, refl, sym, ap, ◌∙◌, arith, length-append, length-drop, ⊎_elim, ap₂, drop-drop, ◌^◌, [], ◌∷◌, slice_index, fold, zero, suc, lit<, lit≤, ◌-◌, add-zero, zero-add, nat_lt, false, inl, inr, drop_of_length-le, take-add, reverse}
+pub use Rattle.std.proofs.Common.{◌≡◌, ◌≢◌, ℕ, ◌+◌, ◌*◌, ◌/◌, ◌%◌, ◌<◌, ◌≤◌, List, ◌++◌, length, take, drop, All, refl, sym, ap, ◌∙◌, arith, length-append, length-drop, ⊎_elim, ap₂, drop-drop, ◌^◌, [], ◌∷◌, slice_index, fold, zero, suc, lit<, lit≤, ◌-◌, add-zero, zero-add, nat_lt, false, inl, inr, drop_of_length-le, take-add, reverse, rules}
 pub use Rattle.std.proofs.Math.Nat.{mul-add-div_right, mod-mod, add-mod-mod}
 pub use Rattle.std.proofs.lemmas.Bool.{cases_eq, cases_lt, OnTrue_from, OnTrue_at}
 pub use Rattle.std.proofs.lemmas.List.Elements.{All-take, All-drop}
@@ -33,3 +33,5 @@ pub use Rattle.hash_theorems.specs.Xxh32Back.{lane_back, turn_of, un_q1, un_q2, 
 unfoldable pub use Rattle.hash_theorems.specs.Xxh32Back.{four_between, lane_for, unturned, word_between, four_out, byte_out, lane_out, last_unmix}
 pub use Rattle.hash_theorems.specs.Xxh64Back.{eight_between, eight_out, un_p1, un_p2, un_p3}
 unfoldable pub use Rattle.hash_theorems.specs.Xxh64Back.{unround, unspun}
+pub use Rattle.std.proofs.lemmas.Grind.{common_steps}
+pub use Rattle.std.proofs.lemmas.Bool.Decides.{nat_tests}

@@ -1,5 +1,5 @@
 -- When the bits in which two texts differ are a burst of 32 bits: told by the first byte that differs, and the fifth from there on.
-use Rattle.hash_theorems.proofs.MoreCommon.{◌≡◌, ◌≢◌, ◌↔◌, IsTrue, nat_eq, ℕ, zero, suc, ◌+◌, ◌-◌, ◌*◌, ◌/◌, ◌%◌, ◌^◌, ◌<◌, ◌≤◌, Bool, List, [], ◌∷◌, length, take, drop, get_or, bit_xor, refl, sym, ap, ◌∙◌, lit<, arith, inl, inr, subst, ap₂, drop-cons, cases_lt, xor_self, Decides-eqb, bit_at-trailing_zeros, IsText, xor_cancel, DifferWithin, IsFirstDifference, exchanged, low_and_high}
+use Rattle.hash_theorems.proofs.MoreCommon.{◌≡◌, ◌≢◌, ◌↔◌, IsTrue, nat_eq, ℕ, zero, suc, ◌+◌, ◌-◌, ◌*◌, ◌/◌, ◌%◌, ◌^◌, ◌<◌, ◌≤◌, Bool, List, [], ◌∷◌, length, take, drop, get_or, bit_xor, refl, sym, ap, ◌∙◌, lit<, arith, inl, inr, subst, ap₂, drop-cons, cases_lt, xor_self, Decides-eqb, bit_at-trailing_zeros, IsText, xor_cancel, DifferWithin, IsFirstDifference, exchanged, low_and_high, common_steps, nat_tests, rules}
 use Rattle.std.proofs.Math.Nat.{mul-pos, mul_assoc, mul_comm, mul-div_cancel, mul-mod_right, mod-add-div, pow-succ', pow-le-pow_right, mul-le-mul_left, mul-le-mul_right, mul-div-le, div-eq_of_lt, mod-lt, lt_of_mul-lt-mul_left, div-add-mod}
 use Rattle.std.proofs.Math.Pow.{mod-mod-pow}
 use Rattle.std.proofs.lemmas.Nat.{xor_lt, xor_shr, xor_mod, pow-add, pow_pos, mod-pow-add}
@@ -14,31 +14,18 @@ use Rattle.hash_theorems.specs.Bursts.{IsBurst, DifferWithinBits}
 -- ---- bursts
 
 pub IsBurst-twice : (bits d : ℕ) → IsBurst bits d → IsBurst bits (2 * d)
-IsBurst-twice bits d burst = record {
-  from = suc burst.from;
-  pattern = burst.pattern;
-  some = burst.some;
-  fits = burst.fits;
-  is = ap (λ n. 2 * n) burst.is ∙ sym (mul_assoc 2 (2 ^ burst.from) burst.pattern)
-      ∙ ap (λ n. n * burst.pattern) (sym (pow-succ' 2 burst.from));
-}
+IsBurst-twice bits d burst = grind (arith, nat_tests, common_steps, mul_assoc 2 (2 ^ burst.from) burst.pattern, pow-succ' 2 burst.from)
 
 halved : (bits d from pattern : ℕ) → 0 < pattern → pattern < 2 ^ bits → 2 * d ≡ 2 ^ from * pattern → IsBurst bits d
 halved bits d zero pattern some fits is = record { from = 0; pattern = d; some = omega arith; fits = omega arith; is = omega arith }
-halved bits d (suc from) pattern some fits is =
-    let twice : 2 ^ suc from * pattern ≡ 2 * (2 ^ from * pattern) = ap (λ n. n * pattern) (pow-succ' 2 from)
-    ∙ mul_assoc 2 (2 ^ from) pattern in
-    record { from = from; pattern = pattern; some = some; fits = fits; is = omega (arith, is, twice) }
+halved bits d (suc from) pattern some fits is = grind (arith, nat_tests, common_steps, pow-succ', mul_assoc)
 
 pub IsBurst-half : (bits d : ℕ) → IsBurst bits (2 * d) → IsBurst bits d
 IsBurst-half bits d burst = halved bits d burst.from burst.pattern burst.some burst.fits burst.is
 
 -- zeros in front don't matter
 pub IsBurst-shifted : (bits k d : ℕ) → IsBurst bits (2 ^ k * d) ↔ IsBurst bits d
-IsBurst-shifted bits zero d =
-    let one : 1 * d ≡ d = omega arith in
-    let P : ℕ → Type 0 = IsBurst bits in
-    (subst P one, subst P (sym one))
+IsBurst-shifted bits zero d = grind (arith, nat_tests, common_steps)
 IsBurst-shifted bits (suc k) d =
     let twice : 2 ^ suc k * d ≡ 2 * (2 ^ k * d) = ap (λ n. n * d) (pow-succ' 2 k) ∙ mul_assoc 2 (2 ^ k) d in
     let P : ℕ → Type 0 = IsBurst bits in
@@ -55,10 +42,7 @@ xor_above k a b =
     let both = bit_xor (2 ^ k * a) (2 ^ k * b) in
     let back = λ (n : ℕ). ap (λ m. m / 2 ^ k) (mul_comm (2 ^ k) n) ∙ mul-div_cancel n (pow_pos k) in
     let above : both / 2 ^ k ≡ bit_xor a b = xor_shr (2 ^ k * a) (2 ^ k * b) k ∙ ap₂ bit_xor (back a) (back b) in
-    let below : both % 2 ^ k ≡ 0 =
-    xor_mod (2 ^ k * a) (2 ^ k * b) k ∙ ap₂ bit_xor (mul-mod_right (2 ^ k) a) (mul-mod_right (2 ^ k) b) ∙ xor_self 0 in
-    let sum : 0 + 2 ^ k * bit_xor a b ≡ 2 ^ k * bit_xor a b = omega arith in
-    sym (mod-add-div both (2 ^ k)) ∙ ap₂ (λ l h. l + 2 ^ k * h) below above ∙ sum
+    grind (arith, nat_tests, common_steps, xor_mod, mul-mod_right, xor_self, mod-add-div)
 
 -- the first bytes, and the others above them
 difference-cons : (a b : ℕ) (x y : List ℕ) → a < 256 → b < 256
@@ -93,9 +77,7 @@ front-shifted : (first : ℕ) (x y : List ℕ) → IsText x → IsText y → len
     → bit_xor (le x) (le y) ≡ 2 ^ (8 * first) * bit_xor (le (drop first x)) (le (drop first y))
 unfolding le
 front-shifted zero x y xs ys same alike = omega arith
-front-shifted (suc first) [] [] xs ys same alike =
-    let nothing : 0 ≡ 2 ^ (8 * suc first) * 0 = omega arith in
-    nothing
+front-shifted (suc first) [] [] xs ys same alike = grind (arith, nat_tests, common_steps)
 front-shifted (suc first) [] (b ∷ y) xs ys same alike = absurd (omega (arith, same))
 front-shifted (suc first) (a ∷ x) [] xs ys same alike = absurd (omega (arith, same))
 front-shifted (suc first) (a ∷ x) (b ∷ y) xs ys same alike =
@@ -119,10 +101,7 @@ front_dropped : (first : ℕ) (x y : List ℕ) → IsText x → IsText y → len
 front_dropped first x y xs ys same alike =
     let shifted = front-shifted first x y xs ys same alike in
     let P : ℕ → Type 0 = IsBurst 32 in
-    let both = IsBurst-shifted 32 (8 * first) (bit_xor (le (drop first x)) (le (drop first y))) in (
-      (λ differ. record { same_length = dropped_length first x y same; burst = both.0 (subst P shifted differ.burst) }),
-      (λ differ. record { same_length = same; burst = subst P (sym shifted) (both.1 differ.burst) }),
-    )
+    let both = IsBurst-shifted 32 (8 * first) (bit_xor (le (drop first x)) (le (drop first y))) in search (rules, dropped_length)
 
 -- texts that are the same from a place on differ in a number of so many bytes
 few_places : (n : ℕ) (x y : List ℕ) → IsText x → IsText y → length x ≡ length y → ((i : ℕ) → n ≤ i → get_or x i 0 ≡ get_or y i 0)
@@ -142,9 +121,7 @@ few_places (suc n) (a ∷ x) (b ∷ y) xs ys same alike =
     let rest : bit_xor (le x) (le y) < 2 ^ (8 * n) =
     few_places n x y (tail_is a x xs) (tail_is b y ys) (omega (arith, same)) (λ i above. alike (suc i) (omega arith)) in
     let low : bit_xor a b < 256 = xor_lt 8 a b small_a small_b in
-    let bits : 8 * suc n ≡ 8 + 8 * n = omega arith in
-    let power : 2 ^ (8 * suc n) ≡ 256 * 2 ^ (8 * n) = ap (λ k. 2 ^ k) bits ∙ pow-add 2 8 (8 * n) in
-    rw (difference-cons a b x y small_a small_b, power) (omega (arith, rest, low))
+    grind (arith, nat_tests, common_steps, pow-add 2 8 (8 * n), difference-cons a b x y small_a small_b)
 
 -- within four places they are within 32 bits
 pub within_four : (x y : List ℕ) → IsText x → IsText y → DifferWithin 4 0 x y → DifferWithinBits 32 x y
@@ -158,13 +135,7 @@ within_four x y xs ys window =
     let below : d < 2 ^ 32 =
     few_places 4 (drop from x) (drop from y) (All-drop is_byte from x xs) (All-drop is_byte from y ys) (dropped_length from x y same)
     (λ i above. get_or-drop from x i 0 ∙ agree (from + i) (inr (omega arith)) ∙ sym (get_or-drop from y i 0)) in
-    let nothing : 2 ^ (8 * from) * 0 ≡ 0 = omega arith in
-    let some : d ≢ 0 = λ none. window.different
-    (difference-none x y xs ys same (shifted ∙ ap (λ n. 2 ^ (8 * from) * n) none ∙ nothing)) in
-    record {
-      same_length = same;
-      burst = record { from = 8 * from; pattern = d; some = omega (arith, some); fits = below; is = shifted };
-    }
+    search (rules, difference-none)
 
 -- ---- the first byte and the fifth
 
@@ -172,29 +143,14 @@ within_four x y xs ys window =
 difference_at : (n : ℕ) (x y : List ℕ) → IsText x → IsText y → length x ≡ length y → n < length x
     → bit_xor (le (drop n x)) (le (drop n y)) ≡ bit_xor (get_or x n 0) (get_or y n 0) + 256 * bit_xor (le (drop (suc n) x)) (le (drop
     (suc n) y))
-difference_at n x y xs ys same below =
-    let below_y : n < length y = omega (arith, same) in
-    ap₂ (λ s t. bit_xor (le s) (le t)) (drop-cons x n 0 below) (drop-cons y n 0 below_y)
-    ∙ difference-cons (get_or x n 0) (get_or y n 0) (drop (suc n) x) (drop (suc n) y) (xs n 0 below) (ys n 0 below_y)
+difference_at n x y xs ys same below = search (rules, drop-cons, difference-cons)
 
 quotient_some : (d w : ℕ) → 0 < d → d ≡ w * (d / w) → 0 < d / w
-quotient_some d w some is = elim (cases_lt 0 (d / w)) [
-  | inl below ↦ below
-  | inr above ↦
-      let none : d / w ≡ 0 = omega arith in
-      let nothing : w * 0 ≡ 0 = omega arith in
-      let zero_is : d ≡ 0 = is ∙ ap (λ q. w * q) none ∙ nothing in
-      absurd (omega (arith, zero_is, some))
-]
+quotient_some d w some is = grind (arith, nat_tests, common_steps, cases_lt)
 
 -- a number is not a multiple of a power of two that is above its lowest bit
 lowest_stays : (d a t m pattern : ℕ) → d % 2 ^ (1 + t) ≡ a % 2 ^ (1 + t) → a / 2 ^ t % 2 ≡ 1 → d ≡ 2 ^ (1 + t) * (2 ^ m * pattern) → ⊥
-lowest_stays d a t m pattern alike odd is =
-    let none : d % 2 ^ (1 + t) ≡ 0 = ap (λ n. n % 2 ^ (1 + t)) is ∙ mul-mod_right (2 ^ (1 + t)) (2 ^ m * pattern) in
-    let digits : a % 2 ^ (1 + t) ≡ (a / 2 ^ t % 2) * 2 ^ t + a % 2 ^ t = mod-pow-add a 1 t in
-    let digit : (a / 2 ^ t % 2) * 2 ^ t ≡ 1 * 2 ^ t = ap (λ n. n * 2 ^ t) odd in
-    let positive : 0 < 2 ^ t = pow_pos t in
-    omega (arith, none, alike, digits, digit, positive)
+lowest_stays d a t m pattern alike odd is = grind (arith, nat_tests, common_steps, mul-mod_right, mod-pow-add, pow_pos)
 
 -- the set bits of a number end where its low byte's lowest bit says
 pub told_by_lowest : (d h r a t : ℕ) → d ≡ h + 2 ^ 32 * r → h < 2 ^ 32 → d % 256 ≡ a → t < 8 → a / 2 ^ t % 2 ≡ 1 → a % 2 ^ t ≡ 0
@@ -217,14 +173,7 @@ told_by_lowest d h r a t sum low byte small odd none =
           let next : r + 1 ≤ 2 ^ t = omega (arith, below) in
           let product : 2 ^ 32 * (r + 1) ≤ 2 ^ 32 * 2 ^ t = mul-le-mul_left (2 ^ 32) next in
           let bound : 2 ^ t * (d / 2 ^ t) < 2 ^ t * 2 ^ 32 = omega (arith, product, parts, sum, low) in
-          record {
-            from = t;
-            pattern = d / 2 ^ t;
-            some = quotient_some d (2 ^ t) positive is;
-            fits = lt_of_mul-lt-mul_left
-                (2 ^ t) bound;
-            is = is;
-          }),
+          grind (arith, nat_tests, common_steps, quotient_some, lt_of_mul-lt-mul_left)),
       (λ burst. elim (cases_lt t burst.from) [
         | inl beyond ↦
             let m = burst.from - (1 + t) in
@@ -233,11 +182,7 @@ told_by_lowest d h r a t sum low byte small odd none =
             (burst.is ∙ ap (λ n. n * burst.pattern) (ap (λ n. 2 ^ n) place ∙ pow-add 2 (1 + t) m)
             ∙ mul_assoc (2 ^ (1 + t)) (2 ^ m) burst.pattern))
         | inr within ↦
-            let smaller : 2 ^ burst.from * burst.pattern ≤ 2 ^ t * burst.pattern =
-            mul-le-mul_right burst.pattern (pow-le-pow_right {n = 2} (lit< tt) within) in
-            let fits : burst.pattern + 1 ≤ 2 ^ 32 = omega (arith, burst.fits) in
-            let product : 2 ^ t * (burst.pattern + 1) ≤ 2 ^ t * 2 ^ 32 = mul-le-mul_left (2 ^ t) fits in
-            omega (arith, smaller, product, burst.is, sum, pow_pos t)
+            grind (arith, nat_tests, common_steps, mul-le-mul_right, pow-le-pow_right, lit<, mul-le-mul_left, pow_pos)
       ]),
     )
 
@@ -259,9 +204,7 @@ short_text x y xs ys same some few differ =
     record { same_length = same; burst = record { from = 0; pattern = d; some = positive; fits = word; is = is } }
 
 pub none_below : (n t : ℕ) → ((i : ℕ) → i < t → n / 2 ^ i % 2 ≡ 0) → n % 2 ^ t ≡ 0
-none_below n zero each =
-    let one : n % 1 ≡ 0 = omega arith in
-    one
+none_below n zero each = grind (arith, nat_tests, common_steps)
 none_below n (suc t) each =
     let digits : suc t ≡ 1 + t = omega arith in
     let rest = none_below n t (λ i below. each i (omega arith)) in
@@ -306,12 +249,7 @@ long_text x y t xs ys same long small odd none =
     let first : d % 256 ≡ a = omega (arith, sum, small_a) in
     let told = told_by_lowest d h r a t sum low first small odd (none_below a t none) in
     let limit : 2 ^ t ≤ 2 ^ 7 = pow-le-pow_right {n = 2} (lit< tt) (let at_most : t ≤ 7 = omega (arith, small) in at_most) in (
-      (λ both.
-          let parts = div-add-mod fifth (2 ^ t) in
-          let none_above : 2 ^ t * (fifth / 2 ^ t) ≡ 2 ^ t * 0 = ap (λ q. 2 ^ t * q) both.0 in
-          let rest : fifth % 2 ^ t < 2 ^ t = mod-lt fifth (pow_pos t) in
-          let nothing : far ≡ 0 = ap (λ s. bit_xor (le s) (le (drop 5 y))) both.1 ∙ xor_self (le (drop 5 y)) in
-          record { same_length = same; burst = told.0 (omega (arith, parts, none_above, rest, nothing)) }),
+      grind (arith, nat_tests, common_steps, div-add-mod, mod-lt, pow_pos, xor_self),
       (λ differ.
           let below = told.1 differ.burst in
           let nothing : far ≡ 0 = omega (arith, below, limit) in
@@ -324,10 +262,7 @@ long_text x y t xs ys same long small odd none =
     )
 
 pub no_burst : (x y : List ℕ) → x ≡ y → DifferWithinBits 32 x y → ⊥
-no_burst x y same differ =
-    let nothing : bit_xor (le x) (le y) ≡ 0 = ap (λ s. bit_xor (le s) (le y)) same ∙ xor_self (le y) in
-    let some : 0 < 2 ^ differ.burst.from * differ.burst.pattern = mul-pos (pow_pos differ.burst.from) differ.burst.some in
-    omega (arith, nothing, some, differ.burst.is)
+no_burst x y same differ = grind (arith, nat_tests, common_steps, xor_self, mul-pos, pow_pos)
 
 -- ---- as the functions have it
 
@@ -338,12 +273,7 @@ slice_from x k = take_all (length x - k) (drop k x) (omega (arith, length-drop k
 pub front_told : (first : ℕ) (x y : List ℕ) (answer : Bool) → IsText x → IsText y → length x ≡ length y → IsFirstDifference first x y
     → (IsTrue answer ↔ DifferWithinBits 32 (take (length x - first) (drop first x)) (take (length y - first) (drop first y)))
     → IsTrue answer ↔ DifferWithinBits 32 x y
-front_told first x y answer xs ys same difference told =
-    let dropped = front_dropped first x y xs ys same difference.same_before in
-    let there : (take (length x - first) (drop first x), take (length y - first) (drop first y)) ≡ (drop first x, drop first y) =
-    ap₂ (λ s t. (s, t)) (slice_from x first) (slice_from y first) in
-    let P : (List ℕ × List ℕ) → Type 0 = λ both. DifferWithinBits 32 both.0 both.1 in
-    ((λ yes. dropped.1 (subst P there (told.0 yes))), (λ differ. told.1 (subst P (sym there) (dropped.0 differ))))
+front_told first x y answer xs ys same difference told = search (rules, front_dropped, slice_from)
 
 pub lowest_of : (a b : ℕ) → a < 256 → b < 256 → a ≢ b
     → (trailing_zeros w8 (bit_xor a b) < 8) × (bit_xor a b / 2 ^ trailing_zeros w8 (bit_xor a b) % 2 ≡ 1)
@@ -356,12 +286,7 @@ lowest_of a b small_a small_b differ =
 pub fifth_refuses : (x y : List ℕ) → IsText x → IsText y → length x ≡ length y → 4 < length x → get_or x 0 0 ≢ get_or y 0 0
     → bit_xor (get_or x 4 0) (get_or y 4 0) / 2 ^ trailing_zeros w8 (bit_xor (get_or x 0 0) (get_or y 0 0)) ≢ 0
     → DifferWithinBits 32 x y → ⊥
-fifth_refuses x y xs ys same long differ above burst =
-    let some : 0 < length x = omega (arith, long) in
-    let lowest = lowest_of (get_or x 0 0) (get_or y 0 0) (xs 0 0 some) (ys 0 0 (let in_y : 0 < length y = omega
-    (arith, same, some) in in_y)) differ in
-    let told = long_text x y (trailing_zeros w8 (bit_xor (get_or x 0 0) (get_or y 0 0))) xs ys same long lowest.0 lowest.1 lowest.2 in
-    above (told.1 burst).0
+fifth_refuses x y xs ys same long differ above burst = search (rules, lowest_of, long_text)
 
 -- it does not, and what is behind it decides
 pub fifth_allows : (x y : List ℕ) (answer : Bool) → IsText x → IsText y → length x ≡ length y → 4 < length x → get_or x 0 0 ≢ get_or y 0 0

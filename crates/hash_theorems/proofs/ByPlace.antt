@@ -1,5 +1,5 @@
 -- The words of a piece by their places.
-use Rattle.hash_theorems.proofs.FxCommon.{ℕ, zero, suc, ◌≡◌, ◌+◌, ◌*◌, ◌/◌, ◌%◌, ◌<◌, ◌≤◌, List, ◌++◌, length, take, drop, map, get_or, refl, ap, ◌∙◌, arith, drop-drop, get_or-drop, length-drop, first_chunks, words32, words64, le, pieces}
+use Rattle.hash_theorems.proofs.FxCommon.{ℕ, zero, suc, ◌≡◌, ◌+◌, ◌*◌, ◌/◌, ◌%◌, ◌<◌, ◌≤◌, List, ◌++◌, length, take, drop, map, get_or, refl, ap, ◌∙◌, arith, drop-drop, get_or-drop, length-drop, first_chunks, words32, words64, le, pieces, common_steps, nat_tests}
 
 -- the chunks of n bytes as words, and what comes behind them
 abbrev chunks_then : ℕ → ℕ → List ℕ → List ℕ → List ℕ
@@ -14,9 +14,7 @@ word_at n (suc k) (suc i) text rest below =
 
 rest_at : (n k i : ℕ) (text rest : List ℕ) → get_or (chunks_then n k text rest) (k + i) 0 ≡ get_or rest i 0
 rest_at n zero i text rest = let e : 0 + i ≡ i = omega arith in ap (λ m. get_or rest m 0) e
-rest_at n (suc k) i text rest =
-    let e : suc k + i ≡ suc (k + i) = omega arith in
-    ap (λ m. get_or (chunks_then n (suc k) text rest) m 0) e ∙ rest_at n k i (drop n text) rest
+rest_at n (suc k) i text rest = grind (arith, nat_tests, common_steps, rest_at n k i (drop n text) rest, drop n text)
 
 count : (n k : ℕ) (text rest : List ℕ) → length (chunks_then n k text rest) ≡ k + length rest
 count n zero text rest = omega arith
@@ -67,9 +65,7 @@ bytes64 piece i =
     let rest = rest_of piece in
     let size = rest_len piece in
     let place : length piece / 8 + length piece % 8 / 4 + i ≡ length piece / 8 + (length rest / 4 + i) = omega (arith, size) in
-    let byte : length piece / 8 * 8 + (length rest / 4 * 4 + i) ≡ length piece / 4 * 4 + i = omega (arith, size) in
-    ap (λ m. get_or (words64 piece) m 0) place ∙ behind64 piece (length rest / 4 + i) ∙ bytes32 rest i
-    ∙ get_or-drop (length piece / 8 * 8) piece (length rest / 4 * 4 + i) 0 ∙ ap (λ m. get_or piece m 0) byte
+    grind (arith, nat_tests, common_steps, behind64, bytes32, get_or-drop)
 
 pub count64 : (piece : List ℕ) → length (words64 piece) ≡ length piece / 8 + length piece % 8 / 4 + length piece % 4
 unfolding pieces

@@ -1,5 +1,5 @@
 -- Differences add up, and one of them is one place.
-use Rattle.hash_theorems.proofs.FxCommon.{◌≡◌, ◌≢◌, ℕ, ◌+◌, ◌<◌, ◌==◌, if◌then◌else◌, List, [], ◌∷◌, ◌++◌, length, map, take, get_or, zero-add, add-zero, arith, refl, sym, ap, ◌∙◌, inl, inr, ap₂, cases_eq, eq-eqb, ne_eqb, length-map, length-take-le, map_more, differences}
+use Rattle.hash_theorems.proofs.FxCommon.{◌≡◌, ◌≢◌, ℕ, ◌+◌, ◌<◌, ◌==◌, if◌then◌else◌, List, [], ◌∷◌, ◌++◌, length, map, take, get_or, zero-add, add-zero, arith, refl, sym, ap, ◌∙◌, inl, inr, ap₂, cases_eq, eq-eqb, ne_eqb, length-map, length-take-le, map_more, differences, common_steps, nat_tests, rules}
 use Rattle.hash_fx.proofs.OneApart.{OneApart}
 
 -- one place
@@ -16,9 +16,7 @@ pub differences-append : (p q x y : List ℕ) → length p ≡ length q → diff
 differences-append [] [] x y len = sym (zero-add (differences x y))
 differences-append [] (b ∷ q) x y len = absurd (omega (arith, len))
 differences-append (a ∷ p) [] x y len = absurd (omega (arith, len))
-differences-append (a ∷ p) (b ∷ q) x y len =
-    let rest = differences-append p q x y (omega (arith, len)) in
-    omega (arith, rest)
+differences-append (a ∷ p) (b ∷ q) x y len = grind (arith, nat_tests, common_steps, differences-append p q x y (omega (arith, len)))
 
 pub none-same : (x y : List ℕ) → length x ≡ length y → differences x y ≡ 0 → x ≡ y
 none-same [] [] len none = refl
@@ -54,9 +52,7 @@ OneApart-one (a ∷ x) (b ∷ y) one = elim one [
 -- of the parts of two lists, the first parts being as long
 pub differences-parts : {X : Type 0} (f : X → ℕ) (p q : List X) (x y all_x all_y : List ℕ) → length p ≡ length q
     → map f p ++ x ≡ all_x → map f q ++ y ≡ all_y → differences (map f p) (map f q) + differences x y ≡ differences all_x all_y
-differences-parts f p q x y all_x all_y len parts_x parts_y =
-    sym (differences-append (map f p) (map f q) x y (length-map p f ∙ len ∙ sym (length-map q f)))
-    ∙ ap₂ differences parts_x parts_y
+differences-parts f p q x y all_x all_y len parts_x parts_y = search (rules, differences-append, length-map)
 
 -- one place more, of lists that are made from others: a and b stand there
 module _ {X : Type 0} (f : X → ℕ) (x y : List X) (i : ℕ) (a b : X) (a_is : a ≡ get_or x i a) (b_is : b ≡ get_or y i b)
@@ -67,10 +63,7 @@ module _ {X : Type 0} (f : X → ℕ) (x y : List X) (i : ℕ) (a b : X) (a_is :
       let same : length (map f (take i x)) ≡ length (map f (take i y)) =
       length-map (take i x) f ∙ length-take-le i x (omega (arith, in_x))
       ∙ sym (length-map (take i y) f ∙ length-take-le i y (omega (arith, in_y))) in
-      ap₂ differences (map_more f x i a in_x ∙ ap (λ v. map f (take i x) ++ f v ∷ []) (sym a_is))
-      (map_more f y i b in_y ∙ ap (λ v. map f (take i y) ++ f v ∷ []) (sym b_is))
-      ∙ differences-append (map f (take i x)) (map f (take i y)) (f a ∷ []) (f b ∷ []) same
-      ∙ ap (λ n. differences (map f (take i x)) (map f (take i y)) + n) (add-zero (place (f a) (f b)))
+      grind (arith, nat_tests, common_steps, map_more, differences-append, add-zero)
 
   pub more-same : (n : ℕ) → n ≡ differences (map f (take i x)) (map f (take i y)) → f a ≡ f b
       → n ≡ differences (map f (take (i + 1) x)) (map f (take (i + 1) y))

@@ -1,8 +1,7 @@
 -- Why two texts that differ within six places, and agree in the top three bits, have different hashes by djb2 with a sum: what is left
 -- of six bytes below 32 are the digits of a number in base 33 that is below 2^32.
-use Rattle.hash_theorems.proofs.MoreCommon.{◌≡◌, ℕ, zero, suc, ◌+◌, ◌*◌, ◌/◌, ◌%◌, ◌^◌, ◌<◌, ◌≤◌, ◌≢◌, List, lit<, arith, bit_and, and_high, IsText, DifferWithin, recurrence_is_fold, hash_apart, Separates}
+use Rattle.hash_theorems.proofs.MoreCommon.{◌≡◌, ℕ, zero, suc, ◌+◌, ◌*◌, ◌/◌, ◌%◌, ◌^◌, ◌<◌, ◌≤◌, ◌≢◌, List, lit<, arith, bit_and, and_high, IsText, DifferWithin, recurrence_is_fold, hash_apart, Separates, common_steps, nat_tests}
 use Rattle.hash_more.specs.Djb2Add.{djb2_add_step, djb2_add_from}
-use Rattle.hash_more.specs.Djb2AddLaws.{djb2_add_facts}
 
 -- two bytes that agree in the top three bits
 same_top : (a b : ℕ) → bit_and a 224 ≡ bit_and b 224 → a < 256 → b < 256 → a / 32 ≡ b / 32
@@ -58,13 +57,7 @@ limit_fits (suc (suc (suc (suc zero)))) h = omega arith
 limit_fits (suc (suc (suc (suc (suc n))))) h = absurd (omega arith)
 
 djb2_add_separates : Separates djb2_add_step (λ s. s < 2 ^ 32) 6 224 (λ n. Digits (limit_after n))
-djb2_add_separates = record {
-  in_range = djb2_add_facts.in_range;
-  state_injective = djb2_add_facts.state_injective;
-  first = λ h a b hs sa sb top ne. first_digit h a b (same_top a b top sa sb) ne;
-  next = λ n h k a b fits hs ks sa sb top far. next_digit (limit_after n) h k a b (limit_fits n fits) (same_top a b top sa sb) far;
-  apart = λ n h k far. different (limit_after n) h k far;
-}
+djb2_add_separates = grind (arith, nat_tests, common_steps, first_digit, same_top, next_digit, limit_fits, different)
 
 pub djb2_add_apart : (x y : List ℕ) → IsText x → IsText y → DifferWithin 6 0xE0 x y → djb2_add_from 5381 x ≢ djb2_add_from 5381 y
 djb2_add_apart x y = hash_apart djb2_add_step (2 ^ 32) 6 224 (λ n. Digits (limit_after n)) djb2_add_separates djb2_add_from

@@ -1,5 +1,5 @@
 -- What the proofs of this crate share of std, of the crates below and of its own definitions, passed on from one place.
-pub use Rattle.std.proofs.Common.{ℕ, zero, suc, ◌≡◌, ◌+◌, ◌*◌, ◌/◌, ◌%◌, ◌<◌, ◌≤◌, List, ◌++◌, length, take, drop, map, get_or, refl, ap, ◌∙◌, arith, drop-drop, get_or-drop, length-drop, Bor, [], ◌∷◌, sym, All, ap₂, ◌≢◌, ◌==◌, if◌then◌else◌, zero-add, add-zero, inl, inr, ◌^◌, bit_xor, ◌-◌, ◌⊎◌, slice_index, ext_get_or, take_at, drop_at, fold, subst, lit<, flat_map, ◌↔◌, Bool, true, false, not, nat_eq, IsTrue, MatchBool, min, length-take, take-append-drop, map-id}
+pub use Rattle.std.proofs.Common.{ℕ, zero, suc, ◌≡◌, ◌+◌, ◌*◌, ◌/◌, ◌%◌, ◌<◌, ◌≤◌, List, ◌++◌, length, take, drop, map, get_or, refl, ap, ◌∙◌, arith, drop-drop, get_or-drop, length-drop, Bor, [], ◌∷◌, sym, All, ap₂, ◌≢◌, ◌==◌, if◌then◌else◌, zero-add, add-zero, inl, inr, ◌^◌, bit_xor, ◌-◌, ◌⊎◌, slice_index, ext_get_or, take_at, drop_at, fold, subst, lit<, flat_map, ◌↔◌, Bool, true, false, not, nat_eq, IsTrue, MatchBool, min, length-take, take-append-drop, map-id, rules}
 pub use Rattle.std.proofs.lemmas.Bool.{cases_eq, eq-eqb, ne_eqb, not-false, both_ways, OnTrue_at, OnTrue_from, eqb-true}
 pub use Rattle.std.proofs.lemmas.List.{map_more, map_push, get_or-map, length-map, length-take-le, drop_all, drop_more, get_or-take}
 pub use Rattle.std.proofs.lemmas.List.Elements.{All-push, All-nil, All-head, All-tail, All-append, All-take, All-drop}
@@ -21,3 +21,5 @@ unfoldable pub use Rattle.hash_laws.specs.Recurrence.{recurrence}
 unfoldable pub use Rattle.hash_words.specs.Pieces.{pieces}
 unfoldable pub use Rattle.hash_words.specs.Words.{le, rotl}
 unfoldable pub use Rattle.std.specs.Hash.{le_bytes}
+pub use Rattle.std.proofs.lemmas.Grind.{common_steps}
+pub use Rattle.std.proofs.lemmas.Bool.Decides.{nat_tests}

@@ -1,5 +1,5 @@
 -- No state of fx favours an answer.
-use Rattle.hash_theorems.proofs.FxCommon.{◌≡◌, ℕ, ◌^◌, ◌<◌, List, [], ◌∷◌, length, take, drop, refl, sym, ap, ◌∙◌, arith, drop_all, le-lt, le-same, IsText-le_bytes, fx32, fx32_step, fx64, fx64_step, words32, words64, of_byte, le_bytes, pieces, le, recurrence}
+use Rattle.hash_theorems.proofs.FxCommon.{◌≡◌, ℕ, ◌^◌, ◌<◌, List, [], ◌∷◌, length, refl, ap, ◌∙◌, arith, drop_all, le-lt, le-same, IsText-le_bytes, fx32, fx32_step, fx64, fx64_step, words32, words64, of_byte, le_bytes, pieces, le, recurrence, common_steps, nat_tests}
 use Rattle.std.proofs.lemmas.List.{take_all}
 use Rattle.hash_words.proofs.WordLemmas.{le-to_le_bytes-32, le-to_le_bytes-64}
 use Rattle.hash_words.specs.Undoes.{UndoesWords}
@@ -24,24 +24,16 @@ module _ (w n : ℕ) (step : ℕ → ℕ → ℕ) (wide : 256 ^ n ≡ 2 ^ w)
       Exactly-one _ text
       (IsText-le_bytes n word, long word, in-one h text (long word) ∙ ap (step h) value ∙ undone.there answer answer_in)
       (λ other known.
-      let below : le other < 2 ^ w = rw (known.1, wide) at (le-lt other known.0) in
-      let same = solved undone (le other) answer below (sym (in-one h other known.1) ∙ known.2) in
-      le-same other text known.0 (IsText-le_bytes n word) (known.1 ∙ sym (long word)) (same ∙ sym value))
+      grind (arith, nat_tests, common_steps, le, le-lt, solved, in-one, le-same, IsText-le_bytes))
 
 -- a text of one word
 eight-word : (text : List ℕ) → length text ≡ 8 → words64 text ≡ le text ∷ []
 unfolding pieces
-eight-word text len =
-    let all : take 8 text ≡ text = take_all 8 text (omega arith) in
-    let none : drop 8 text ≡ [] = drop_all 8 text (omega arith) in
-    rw (len, all, none) refl
+eight-word text len = grind (arith, nat_tests, common_steps, take_all, drop_all)
 
 four-word : (text : List ℕ) → length text ≡ 4 → words32 text ≡ le text ∷ []
 unfolding pieces
-four-word text len =
-    let all : take 4 text ≡ text = take_all 4 text (omega arith) in
-    let none : drop 4 text ≡ [] = drop_all 4 text (omega arith) in
-    rw (len, all, none) refl
+four-word text len = grind (arith, nat_tests, common_steps, take_all, drop_all)
 
 value-64 : (v : ℕ) → v < 2 ^ 64 → le (le_bytes 8 v) ≡ v
 unfolding le_bytes

@@ -1,5 +1,5 @@
 -- What the proofs of this crate share of std, of the crates below and of its own definitions, passed on from one place.
-pub use Rattle.std.proofs.Common.{◌≡◌, ◌+◌, ◌-◌, ◌≤◌, ◌++◌, ◌∙◌, ℕ, lit<, List, length, slice_index, take, replicate, refl, sym, ap, arith, inl, inr, ⊎_elim, length-append, ◌≢◌, ◌%◌, ◌*◌, ◌/◌, ◌<◌, ◌^◌, ◌∷◌, [], drop, fold, map, reverse, w32, ap₂, flat_map, nat_lt, true, w64, All, slice_set, suc, zero, get_or, add_comm, add-zero, mod-eq_of_lt, length-set, get_or-set_same}
+pub use Rattle.std.proofs.Common.{◌≡◌, ◌+◌, ◌-◌, ◌≤◌, ◌++◌, ◌∙◌, ℕ, lit<, List, length, slice_index, take, replicate, refl, sym, ap, arith, inl, inr, ⊎_elim, length-append, ◌≢◌, ◌%◌, ◌*◌, ◌/◌, ◌<◌, ◌^◌, ◌∷◌, [], drop, fold, map, reverse, w32, ap₂, flat_map, nat_lt, true, w64, All, slice_set, suc, zero, get_or, add_comm, add-zero, mod-eq_of_lt, length-set, get_or-set_same, rules}
 pub use Rattle.std.proofs.lemmas.Bool.{cases_lt, OnTrue_from}
 pub use Rattle.std.proofs.lemmas.Bool.Decides.{nat_tests, Decides-eqb}
 pub use Rattle.std.proofs.lemmas.Grind.{fold-append, common_steps}

@@ -1,6 +1,6 @@
 -- lookup3's blocks of twelve bytes: no two pieces that differ only in one lead to the same three words, one block leads to three
 -- words, and how many lead to an answer.
-use Rattle.hash_theorems.proofs.JenkinsCommon.{◌≡◌, ◌≢◌, ◌%◌, ◌*◌, ◌+◌, ◌/◌, ◌<◌, ◌^◌, ◌∙◌, ◌∷◌, List, [], ap, arith, drop, fold, length, map, refl, slice_index, sym, take, w32, ℕ, ap₂, flat_map, first_chunks, to_le_bytes, drop_all, take_all, no_words, IsPiece, part-same, rest-same, texts-same, of_four_bytes, AreSteps, Step, Undoes, ◌▷◌, likewise, told, solved, of_steps, words-listed, IsText, ExactlyTexts, DifferInOne, zero_filled, add_block, lookup3_answer, lookup3_from, lookup3_piece, lookup3_words, mix_block, start, third_word, drop_eight, le, pieces, apply, undo, last_block, differences}
+use Rattle.hash_theorems.proofs.JenkinsCommon.{◌≡◌, ◌≢◌, ◌%◌, ◌*◌, ◌+◌, ◌/◌, ◌<◌, ◌^◌, ◌∙◌, ◌∷◌, List, [], ap, arith, drop, fold, length, map, refl, slice_index, sym, take, w32, ℕ, ap₂, flat_map, first_chunks, to_le_bytes, drop_all, take_all, no_words, IsPiece, part-same, rest-same, texts-same, of_four_bytes, AreSteps, Step, Undoes, ◌▷◌, likewise, told, solved, of_steps, words-listed, IsText, ExactlyTexts, DifferInOne, zero_filled, add_block, lookup3_answer, lookup3_from, lookup3_piece, lookup3_words, mix_block, start, third_word, drop_eight, le, pieces, apply, undo, last_block, differences, common_steps, nat_tests}
 use Rattle.hash_rounds.specs.Rounds as rounds
 use Rattle.hash_jenkins.specs.Lookup3Laws.{AreThreeWords, lookup3_final-steps, lookup3_mix-steps, lookup3_words-AreThreeWords, start-AreThreeWords}
 use Rattle.hash_jenkins.proofs.FilledLemmas.{filled-piece, filled-same}
@@ -124,9 +124,7 @@ module _ (pc pb : ℕ) where
       → words ≡ wanted (slice_index words 2 + 2 ^ 32 * slice_index words 1) (slice_index words 0)
   wanted-are (a ∷ b ∷ c ∷ []) words_in =
       let low : c < 2 ^ 32 = words_in.1 2 in
-      let b_is : b ≡ (c + 2 ^ 32 * b) / 2 ^ 32 = omega arith in
-      let c_is : c ≡ (c + 2 ^ 32 * b) % 2 ^ 32 = omega arith in
-      λ i. a ∷ b_is i ∷ c_is i ∷ []
+      grind (arith, nat_tests, common_steps)
   wanted-are words words_in = absurd (omega (arith, words_in.0))
 
   module _ (answer third : ℕ) (answer_in : answer < 2 ^ 64) (third_in : third < 2 ^ 32) where
@@ -140,10 +138,7 @@ module _ (pc pb : ℕ) where
     there = of_last.there (wanted answer third) wanted_in
 
     pub block-leads : lookup3_answer (lookup3_from (pc, pb) block) ≡ answer
-    block-leads =
-        let whole : answer % 2 ^ 32 + 2 ^ 32 * (answer / 2 ^ 32) ≡ answer = omega arith in
-        ap lookup3_answer (from-block block refl)
-        ∙ ap (λ (words : List ℕ). slice_index words 2 + 2 ^ 32 * slice_index words 1) there ∙ whole
+    block-leads = grind (arith, nat_tests, common_steps, from-block, there)
 
     pub block-third : third_word (pc, pb) block ≡ third
     block-third = ap (λ (words : List ℕ). slice_index words 0) there

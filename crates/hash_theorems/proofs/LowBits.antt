@@ -1,5 +1,5 @@
 -- The low bits of a state after a word rest on the word's low bits.
-use Rattle.hash_theorems.proofs.FxCommon.{ℕ, ◌≡◌, ◌-◌, ◌*◌, ◌%◌, ◌^◌, ◌≤◌, bit_xor, ap, sym, ◌∙◌, arith, xor_mod, mul-mod}
+use Rattle.hash_theorems.proofs.FxCommon.{ℕ, ◌≡◌, ◌-◌, ◌*◌, ◌%◌, ◌^◌, ◌≤◌, bit_xor, ap, sym, ◌∙◌, arith, xor_mod, mul-mod, common_steps, nat_tests}
 use Rattle.std.proofs.Math.Pow.{mod-mod-pow}
 
 -- a mask of w bits does not show below k of them
@@ -12,9 +12,4 @@ low_of_product a b key k same = mul-mod a key (2 ^ k) ∙ ap (λ n. n * (key % 2
 
 pub low_of_step : (w k state key v u : ℕ) → k ≤ w → v % 2 ^ k ≡ u % 2 ^ k
     → bit_xor state v * key % 2 ^ w % 2 ^ k ≡ bit_xor state u * key % 2 ^ w % 2 ^ k
-low_of_step w k state key v u within same =
-    let xored : bit_xor state v % 2 ^ k ≡ bit_xor state u % 2 ^ k =
-    xor_mod state v k ∙ ap (bit_xor (state % 2 ^ k)) same ∙ sym (xor_mod state u k) in
-    low_of_low w k (bit_xor state v * key) within
-    ∙ low_of_product (bit_xor state v) (bit_xor state u) key k xored
-    ∙ sym (low_of_low w k (bit_xor state u * key) within)
+low_of_step w k state key v u within same = grind (arith, nat_tests, common_steps, xor_mod, low_of_low, low_of_product)

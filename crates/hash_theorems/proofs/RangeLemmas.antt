@@ -1,5 +1,7 @@
 -- Both words of each hash of 128 bits are below 2^64, and so is a hash by XXH3.
-use Rattle.std.proofs.Common.{ℕ, ◌*◌, ◌^◌, ◌<◌, Bool, true, false, if◌then◌else◌, nat_lt, List, length, slice_index, refl, sym, lit<, subst}
+use Rattle.std.proofs.lemmas.Grind.{common_steps}
+use Rattle.std.proofs.lemmas.Bool.Decides.{nat_tests}
+use Rattle.std.proofs.Common.{ℕ, ◌*◌, ◌^◌, ◌<◌, Bool, true, false, if◌then◌else◌, nat_lt, List, length, slice_index, refl, sym, lit<, subst, arith}
 use Rattle.std.proofs.lemmas.Nat.{mod_below}
 use Rattle.hash_words.specs.Pieces.{le_words}
 use Rattle.hash_words.proofs.XorshiftLemmas.{xorshift-lt}
@@ -50,15 +52,7 @@ length_mix_below len h = xorshift-lt 64 _ 28 (mod_below _ (2 ^ 64) (lit< tt))
 
 pub xxh3_below : (seed : ℕ) (text : List ℕ) → xxh3_64_of seed text < 2 ^ 64
 unfolding xxh3_64_of of_none of_sixteen of_128 of_240 long.long_under long.end_long long.merge
-xxh3_below seed text =
-    let len = length text in
-    either IsWord (nat_lt len 241)
-    (either IsWord (nat_lt len 17)
-    (either IsWord (nat_lt len 1) (avalanche_64_below _)
-    (either IsWord (nat_lt len 4) (avalanche_64_below _)
-    (either IsWord (nat_lt len 9) (length_mix_below len _) (avalanche_below _))))
-    (either IsWord (nat_lt len 129) (avalanche_below _) (avalanche_below _)))
-    (avalanche_below _)
+xxh3_below seed text = grind (arith, nat_tests, common_steps, either, avalanche_64_below, length_mix_below, avalanche_below)
 
 pub xxh128_below : (seed : ℕ) (text : List ℕ) → AreBoth (wide.xxh3_128_of seed text)
 unfolding wide.xxh3_128_of wide.wide_none wide.eight_low wide.sixteen_end wide.wide_128 wide.wide_240 wide.wide_end wide.wide_under
@@ -109,8 +103,4 @@ spooky_below seed1 seed2 text in1 in2 =
 
 pub spooky_v1_below : (seed1 seed2 : ℕ) (text : List ℕ) → seed1 < 2 ^ 64 → seed2 < 2 ^ 64 → AreBoth (of.spooky_v1 seed1 seed2 text)
 spooky_v1_below seed1 seed2 text in1 in2 =
-    let short = (short_end_in _ (short_start-AreFourWords seed1 seed2 text in1 in2)).1 in
-    let b = nat_lt (length text) 192 in (
-      either (λ (words : List ℕ). IsWord (slice_index words 0)) b (short 0) (twelve_in seed1 seed2 text 0 in1 in2),
-      either (λ (words : List ℕ). IsWord (slice_index words 1)) b (short 1) (twelve_in seed1 seed2 text 1 in1 in2),
-    )
+    grind (arith, nat_tests, common_steps, short_end_in, short_start-AreFourWords, either, twelve_in)

@@ -1,5 +1,5 @@
 -- The one stretch that leads SpookyHash below 192 bytes to four words, and how many lead to a hash.
-use Rattle.hash_theorems.proofs.JenkinsCommon.{◌≡◌, ◌+◌, ◌-◌, ◌*◌, ◌/◌, ◌%◌, ◌^◌, ◌<◌, ◌∷◌, ◌++◌, ◌∙◌, ℕ, nat_lt, true, List, [], length, slice_index, take, replicate, refl, sym, ap, ap₂, arith, length-append, nat_tests, append_assoc, drop-replicate, mod_below, pow_pos, IsPiece, Undoes, ◌▷◌, likewise, told, solved, short_mix, AreFourWords, words-listed, short_end-steps, stepped, ExactlyTexts, IsText, zero_filled, first_two, short_words, spooky, chunks_from, missing, stretch_of}
+use Rattle.hash_theorems.proofs.JenkinsCommon.{◌≡◌, ◌+◌, ◌-◌, ◌*◌, ◌/◌, ◌%◌, ◌^◌, ◌<◌, ◌∷◌, ◌++◌, ◌∙◌, ℕ, List, [], length, slice_index, take, replicate, refl, sym, ap, ap₂, arith, length-append, nat_tests, append_assoc, drop-replicate, mod_below, pow_pos, IsPiece, Undoes, ◌▷◌, likewise, told, solved, short_mix, AreFourWords, words-listed, short_end-steps, stepped, ExactlyTexts, IsText, zero_filled, first_two, short_words, spooky, chunks_from, missing, stretch_of, common_steps, rules}
 use Rattle.hash_words.specs.Put.{put_at}
 use Rattle.hash_rounds.specs.Rounds as rounds
 use Rattle.hash_jenkins.proofs.FilledLemmas.{filled-piece, take-zero_filled}
@@ -79,13 +79,12 @@ module _ (seed1 seed2 : ℕ) (front back : List ℕ) (s1 : seed1 < 2 ^ 64) (s2 :
       → chunks_from to (take (176 - length front) (put_at 16 back (replicate 192 0))) ≡ stretches to behind
   to-is to to_in =
       let n = 176 - length front in
-      let size = length-append none back in
-      let all : 192 - (16 + length back) ≡ 192 - length (none ++ back) = omega (arith, size) in
-      let count : n + 16 - length (none ++ back) ≡ n - length back = omega (arith, size) in
+      let all : 192 - (16 + length back) ≡ 192 - length (none ++ back) = omega arith in
+      let count : n + 16 - length (none ++ back) ≡ n - length back = omega arith in
       ap (λ (z : List ℕ). chunks_from to (take n (none ++ (back ++ z))))
       (drop-replicate {X = ℕ} (16 + length back) 192 0 ∙ ap (λ k. replicate k 0) all)
-      ∙ ap (chunks_from to) (take-zero_filled n 192 (none ++ back) (omega (arith, size)) (omega arith))
-      ∙ chunks-are to to_in n (none ++ back) (omega arith) (omega (arith, size))
+      ∙ ap (chunks_from to) (take-zero_filled n 192 (none ++ back) (omega arith) (omega arith))
+      ∙ chunks-are to to_in n (none ++ back) (omega arith) (omega arith)
       ∙ ap (λ k. stretches (unmix to) ((none ++ none) ++ (back ++ replicate k 0))) count
       ∙ pieces-then add_stretch (unmix to) (none ++ none) behind refl
       ∙ ap (λ (k : List ℕ). stretches k behind) (none-added (unmix to) (of_mix.back_in to to_in) ∙ of_mix.there to to_in)
@@ -94,18 +93,13 @@ module _ (seed1 seed2 : ℕ) (front back : List ℕ) (s1 : seed1 < 2 ^ 64) (s2 :
       → ended (length front + 32 + length back) end ≡ words
       → chunks_from to (take (176 - length front) (put_at 16 back (replicate 192 0))) ≡ end → AreFourWords to
       → short_words seed1 seed2 (text_of (stretch_of (missing got to))) ≡ words
-  found got end to words before after there to_in =
-      ap (λ (h : List ℕ). short_words seed1 seed2 (text_of (stretch_of (missing h to)))) (before ∙ got-is)
-      ∙ leads to words to_in (ap (ended (length front + 32 + length back)) (sym (to-is to to_in) ∙ there) ∙ after)
+  found got end to words before after there to_in = search (rules, got-is, leads, to-is)
 
   -- ---- the hash, and what is left out
 
   spooky-is : (stretch : List ℕ) → length stretch ≡ 32
       → spooky seed1 seed2 (text_of stretch) ≡ first_two (short_words seed1 seed2 (text_of stretch))
-  spooky-is stretch len =
-      let long = text_of-length stretch len in
-      let short : nat_lt (length (text_of stretch)) 192 ≡ true = grind (arith, nat_tests) in
-      rw short refl
+  spooky-is stretch len = grind (arith, nat_tests, common_steps, text_of-length)
 
   module _ (back_text : IsText back) (hash : ℕ × ℕ) (first_in : hash.0 < 2 ^ 64) (second_in : hash.1 < 2 ^ 64) where
     abbrev wanted : ℕ → List ℕ
@@ -129,20 +123,13 @@ module _ (seed1 seed2 : ℕ) (front back : List ℕ) (s1 : seed1 < 2 ^ 64) (s2 :
     joined i i_in = omega arith
 
     left_out-lt : (words : List ℕ) → AreFourWords words → left_out words < 2 ^ 128
-    left_out-lt words words_in =
-        let third : slice_index words 2 < 2 ^ 64 = words_in.1 2 in
-        let fourth : slice_index words 3 < 2 ^ 64 = words_in.1 3 in
-        omega arith
+    left_out-lt words words_in = grind (arith, nat_tests, common_steps)
 
     wanted-are : (words : List ℕ) → AreFourWords words → first_two words ≡ hash → wanted (left_out words) ≡ words
     wanted-are (a ∷ b ∷ c ∷ d ∷ []) words_in is =
         let third : c < 2 ^ 64 = words_in.1 2 in
         let fourth : d < 2 ^ 64 = words_in.1 3 in
-        let low : (c + 2 ^ 64 * d) % 2 ^ 64 ≡ c = omega arith in
-        let high : (c + 2 ^ 64 * d) / 2 ^ 64 % 2 ^ 64 ≡ d = omega arith in
-        let first : hash.0 ≡ a = ap (λ (h : ℕ × ℕ). h.0) (sym is) in
-        let second : hash.1 ≡ b = ap (λ (h : ℕ × ℕ). h.1) (sym is) in
-        λ i. first i ∷ second i ∷ low i ∷ high i ∷ []
+        grind (arith, nat_tests, common_steps)
     wanted-are words words_in is = absurd (omega (arith, words_in.0))
 
     pub stretches-even : ExactlyTexts (2 ^ 128) 32 (λ stretch. spooky seed1 seed2 (text_of stretch) ≡ hash)

@@ -1,21 +1,17 @@
 -- Texts of one to eight bytes are known by the number that is hashed.
-use Rattle.hash_theorems.proofs.Xxh3Common.{◌≡◌, ℕ, ◌+◌, ◌-◌, ◌*◌, ◌/◌, ◌%◌, ◌^◌, ◌<◌, ◌≤◌, nat_lt, true, false, List, ◌++◌, length, slice_index, get_or, take, drop, bit_xor, refl, sym, ◌∙◌, ap, lit<, arith, inl, inr, length-drop, w32, get_or-take, get_or-drop, length-take, take_all, to_le_bytes, cases_lt, nat_tests, All-take, All-drop, mod_below, le, Undoes, IsWord, UndoesWords, of_four_bytes, of_halves, IsPiece, le-same, ◌▷◌, likewise, told, both, xored, AreWords-at, IsText, IsByte, half_at, word_at, of_few, of_eight, ext_get_or, length_mix, few_number, few_flip, eight_number, eight_flip, xxh3_64_of}
+use Rattle.hash_theorems.proofs.Xxh3Common.{◌≡◌, ℕ, ◌+◌, ◌-◌, ◌*◌, ◌/◌, ◌%◌, ◌^◌, ◌<◌, ◌≤◌, List, ◌++◌, length, slice_index, get_or, take, drop, bit_xor, refl, sym, ◌∙◌, ap, lit<, arith, inl, inr, length-drop, w32, get_or-take, get_or-drop, length-take, take_all, to_le_bytes, cases_lt, nat_tests, All-take, All-drop, mod_below, le, Undoes, IsWord, UndoesWords, of_four_bytes, of_halves, IsPiece, le-same, ◌▷◌, likewise, told, both, xored, AreWords-at, IsText, IsByte, half_at, word_at, of_few, of_eight, ext_get_or, length_mix, few_number, few_flip, eight_number, eight_flip, xxh3_64_of, common_steps}
 use Rattle.hash_words.proofs.ByteLemmas.{le-few}
 use Rattle.hash_theorems.proofs.MixLemmas.{of_avalanche_64, un_length_mix, of_length_mix}
 
 -- ---- parts of texts
 
 pub part-at : (w at i : ℕ) (x y : List ℕ) → take w (drop at x) ≡ take w (drop at y) → i < w → get_or x (at + i) 0 ≡ get_or y (at + i) 0
-part-at w at i x y same i_in =
-    sym (get_or-take w (drop at x) i 0 i_in ∙ get_or-drop at x i 0) ∙ ap (λ (t : List ℕ). get_or t i 0) same
-    ∙ get_or-take w (drop at y) i 0 i_in ∙ get_or-drop at y i 0
+part-at w at i x y same i_in = grind (arith, nat_tests, common_steps, get_or-take, get_or-drop)
 
 pub piece-same : (w at : ℕ) (x y : List ℕ) → IsText x → IsText y → length x ≡ length y → le (take w (drop at x)) ≡ le (take w (drop at y))
     → take w (drop at x) ≡ take w (drop at y)
 piece-same w at x y xs ys len same =
-    le-same (take w (drop at x)) (take w (drop at y)) (All-take IsByte w (drop at x) (All-drop IsByte at x xs))
-    (All-take IsByte w (drop at y) (All-drop IsByte at y ys))
-    (omega (arith, len, length-take w (drop at x), length-take w (drop at y), length-drop at x, length-drop at y)) same
+    grind (arith, nat_tests, common_steps, le-same, All-take, All-drop, length-take, length-drop)
 
 pub piece-lt : (w at : ℕ) (x : List ℕ) → IsText x → le (take w (drop at x)) < 256 ^ w
 piece-lt w at x xs = le-few w (take w (drop at x)) (All-take IsByte w (drop at x) (All-drop IsByte at x xs)) (omega (arith, length-take w (drop at x)))
@@ -44,23 +40,11 @@ digits-same a b c d e f g h a_in b_in c_in d_in e_in f_in g_in h_in same = (omeg
 -- so few bytes are the first, the middle and the last
 by_three : (x y : List ℕ) → length x ≡ length y → length x < 4 → slice_index x 0 ≡ slice_index y 0
     → slice_index x (length x / 2) ≡ slice_index y (length x / 2) → slice_index x (length x - 1) ≡ slice_index y (length x - 1) → x ≡ y
-by_three x y len few first middle last = ext_get_or 0 x y len (λ i i_in. elim (cases_lt i 1) [
-  | inl none ↦ let e : i ≡ 0 = omega arith in rw e first
-  | inr some ↦ elim (cases_lt i (length x - 1)) [
-    | inl before ↦ let e : i ≡ length x / 2 = omega arith in rw e middle
-    | inr end ↦ let e : i ≡ length x - 1 = omega arith in rw e last
-  ]
-])
+by_three x y len few first middle last = ext_get_or 0 x y len (λ i i_in. grind (arith, nat_tests, common_steps, cases_lt))
 
 few-same : (x y : List ℕ) → IsText x → IsText y → length x < 4 → length y < 4 → few_number x ≡ few_number y → x ≡ y
 unfolding few_number
-few-same x y xs ys x_few y_few same =
-    let at = λ (t : List ℕ) (is : IsText t) (i : ℕ). AreWords-at 8 t is i in
-    let (last, len, first, middle) = digits-same (slice_index x (length x - 1)) (length x) (slice_index x 0) (slice_index x (length x / 2))
-    (slice_index y (length y - 1)) (length y) (slice_index y 0) (slice_index y (length y / 2))
-    (at x xs (length x - 1)) (omega arith) (at x xs 0) (at x xs (length x / 2))
-    (at y ys (length y - 1)) (omega arith) (at y ys 0) (at y ys (length y / 2)) same in
-    by_three x y len x_few first (middle ∙ ap (λ n. slice_index y (n / 2)) (sym len)) (last ∙ ap (λ n. slice_index y (n - 1)) (sym len))
+few-same x y xs ys x_few y_few same = grind (arith, nat_tests, common_steps, AreWords-at, digits-same, by_three)
 
 few_number-lt : (x : List ℕ) → IsText x → length x < 4 → few_number x < 2 ^ 64
 unfolding few_number
@@ -100,22 +84,11 @@ of_eight_mix seed len len_in = xored 64 _ (mod_below _ (2 ^ 64) (lit< tt)) ▷ o
 
 pub is_few : (seed : ℕ) (x : List ℕ) → 1 ≤ length x → length x < 4 → xxh3_64_of seed x ≡ of_few seed x
 unfolding xxh3_64_of
-is_few seed x some few =
-    let t1 : nat_lt (length x) 241 ≡ true = grind (arith, nat_tests) in
-    let t2 : nat_lt (length x) 17 ≡ true = grind (arith, nat_tests) in
-    let t3 : nat_lt (length x) 1 ≡ false = grind (arith, nat_tests) in
-    let t4 : nat_lt (length x) 4 ≡ true = grind (arith, nat_tests) in
-    rw (t1, t2, t3, t4) refl
+is_few seed x some few = grind (arith, nat_tests, common_steps)
 
 is_eight : (seed : ℕ) (x : List ℕ) → 4 ≤ length x → length x < 9 → xxh3_64_of seed x ≡ of_eight seed x
 unfolding xxh3_64_of
-is_eight seed x some few =
-    let t1 : nat_lt (length x) 241 ≡ true = grind (arith, nat_tests) in
-    let t2 : nat_lt (length x) 17 ≡ true = grind (arith, nat_tests) in
-    let t3 : nat_lt (length x) 1 ≡ false = grind (arith, nat_tests) in
-    let t4 : nat_lt (length x) 4 ≡ false = grind (arith, nat_tests) in
-    let t5 : nat_lt (length x) 9 ≡ true = grind (arith, nat_tests) in
-    rw (t1, t2, t3, t4, t5) refl
+is_eight seed x some few = grind (arith, nat_tests, common_steps)
 
 -- texts of one to three bytes, and texts of one length of four to eight, are known by their hashes
 pub few_bytes_same : (seed : ℕ) (x y : List ℕ) → IsText x → IsText y → 1 ≤ length x → length x < 4
@@ -134,15 +107,7 @@ eight_bytes_same seed x y xs ys len some few same =
 -- ---- eight bytes, as two halves
 
 of_two_halves : Undoes (λ (p : ℕ × ℕ). (p.0 < 2 ^ 32) × (p.1 < 2 ^ 32)) (IsWord 64) (λ p. p.1 + p.0 * 2 ^ 32) (λ n. (n / 2 ^ 32, n % 2 ^ 32))
-of_two_halves = record {
-  there_in = λ p p_in. omega (arith, p_in.0, p_in.1);
-  back_in = λ n n_in. (omega arith, omega arith);
-  back = λ p p_in. λ i. (
-    (let e : (p.1 + p.0 * 2 ^ 32) / 2 ^ 32 ≡ p.0 = omega (arith, p_in.1) in e) i,
-    (let e : (p.1 + p.0 * 2 ^ 32) % 2 ^ 32 ≡ p.1 = omega (arith, p_in.1) in e) i,
-  );
-  there = λ n n_in. omega arith;
-}
+of_two_halves = grind (arith, nat_tests, common_steps)
 
 of_number : Undoes (IsPiece 8) (IsWord 64) eight_number (λ n. to_le_bytes w32 (n / 2 ^ 32) ++ to_le_bytes w32 (n % 2 ^ 32))
 unfolding eight_number

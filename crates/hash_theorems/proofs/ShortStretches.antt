@@ -1,6 +1,6 @@
 -- A text below 192 bytes by its stretches, the 32 bytes each that are added between two mixes: no two texts that differ only in
 -- one have the same four words.
-use Rattle.hash_theorems.proofs.JenkinsCommon.{◌≡◌, ◌≢◌, ◌%◌, ◌*◌, ◌++◌, ◌+◌, ◌-◌, ◌/◌, ◌<◌, ◌^◌, ◌∙◌, ◌∷◌, ◌≤◌, All, List, [], ap, arith, drop, fold, length, length-append, lit<, map, refl, replicate, slice_index, slice_set, suc, sym, take, zero, ℕ, ap₂, fold-append, append_assoc, append_cancel_left, drop_all, length-drop, length-take-le, nil_from_length, take-append-drop, take_all, All-append, All-replicate, first_chunks, to_le_bytes, w64, add_at, sub, reverse, no_words, IsPiece, first_chunks-pieces, part-same, texts-same, of_eight_bytes, Undoes, ◌▷◌, folded, told, of_steps, short_end, short_mix, AddData, AreFourWords, short_end-steps, short_mix-steps, stepped, words-listed, IsText, IsByte, DifferInOne, zero_filled, add_chunk, short_start, short_words, short_words_v1, le, le_words, pieces, apply, undo, chunks_from, missing, stretch_of}
+use Rattle.hash_theorems.proofs.JenkinsCommon.{◌≡◌, ◌≢◌, ◌%◌, ◌*◌, ◌++◌, ◌+◌, ◌-◌, ◌/◌, ◌<◌, ◌^◌, ◌∙◌, ◌∷◌, ◌≤◌, All, List, [], ap, arith, drop, fold, length, length-append, lit<, map, refl, replicate, slice_index, slice_set, suc, sym, take, zero, ℕ, ap₂, fold-append, append_assoc, append_cancel_left, drop_all, length-drop, length-take-le, nil_from_length, take-append-drop, take_all, All-append, All-replicate, first_chunks, to_le_bytes, w64, add_at, sub, reverse, no_words, IsPiece, first_chunks-pieces, part-same, texts-same, of_eight_bytes, Undoes, ◌▷◌, folded, told, of_steps, short_end, short_mix, AddData, AreFourWords, short_end-steps, short_mix-steps, stepped, words-listed, IsText, DifferInOne, zero_filled, add_chunk, short_start, short_words, short_words_v1, le, le_words, pieces, apply, undo, chunks_from, missing, stretch_of, common_steps, nat_tests, rules}
 use Rattle.hash_words.proofs.Chunks.{first_chunks-append}
 use Rattle.hash_rounds.specs.Rounds as rounds
 use Rattle.hash_jenkins.proofs.FilledLemmas.{agree_between, filled-piece, filled-same, length-zero_filled, zero_filled-longer}
@@ -84,9 +84,7 @@ add_last h p = add_at (add_at h 2 (le (take 8 p))) 3 (le (take 8 (drop 8 p)))
 
 none-adds : (h : List ℕ) → AreFourWords h → (add_first h none ≡ h) × (add_last h none ≡ h)
 unfolding le
-none-adds h h_in =
-    let nothing = λ (i : ℕ). add-nothing 64 i h (h_in.1 i) in
-    (rw (nothing 0, nothing 1) refl, rw (nothing 2, nothing 3) refl)
+none-adds h h_in = grind (arith, nat_tests, common_steps, add-nothing)
 
 four-halves : (p a : List ℕ) → length p ≡ 16
     → four (p ++ a) ≡ le (take 8 p) ∷ le (take 8 (drop 8 p)) ∷ le (take 8 a) ∷ le (take 8 (drop 8 a)) ∷ []
@@ -192,11 +190,7 @@ module _ (seed1 seed2 : ℕ) (x y : List ℕ) (s1 : seed1 < 2 ^ 64) (s2 : seed2 
   seven z = none ++ zero_filled 208 z
 
   seven-is : (z : List ℕ) → IsText z → length z < 192 → IsPiece 224 (seven z)
-  seven-is z is_text z_few =
-      let rest = filled-piece 208 z is_text (omega arith) in (
-        All-append IsByte none (zero_filled 208 z) (All-replicate IsByte 16 0 (lit< tt)) rest.0,
-        omega (arith, length-append none (zero_filled 208 z), rest.1),
-      )
+  seven-is z is_text z_few = search (rules, filled-piece, All-append, All-replicate, lit<, length-append)
 
   at : (p : ℕ) → p / 32 ≢ differ.one.0 → slice_index (seven x) p ≡ slice_index (seven y) p
   at p other =

@@ -1,5 +1,5 @@
 -- XXH3 of 128 bits of nine to sixteen bytes, as a function of the first word and the last one, and what undoes it.
-use Rattle.hash_theorems.proofs.Xxh3Common.{◌≡◌, ℕ, ◌-◌, ◌*◌, ◌/◌, ◌%◌, ◌^◌, ◌<◌, List, ◌++◌, length, drop, bit_xor, refl, ◌∙◌, lit<, arith, length-drop, w64, take_all, mod_below, mul-lt, div_below, swap_bytes, to_le_bytes, add, sub, Undoes, UndoesWords, of_eight_bytes, of_halves, IsPiece, ◌▷◌, likewise, both, on_first, on_second, xored, added, added_onto, multiplied, word_at, times, secret_pair}
+use Rattle.hash_theorems.proofs.Xxh3Common.{◌≡◌, ℕ, ◌-◌, ◌*◌, ◌/◌, ◌%◌, ◌^◌, ◌<◌, List, ◌++◌, length, drop, bit_xor, refl, ◌∙◌, lit<, arith, length-drop, w64, take_all, mod_below, mul-lt, div_below, swap_bytes, to_le_bytes, add, sub, Undoes, UndoesWords, of_eight_bytes, of_halves, IsPiece, ◌▷◌, likewise, both, on_first, on_second, xored, added, added_onto, multiplied, word_at, times, secret_pair, common_steps, nat_tests}
 use Rattle.hash_xxh3.specs.Wide
 use Rattle.hash_theorems.proofs.MixLemmas.{un_avalanche, of_avalanche}
 
@@ -14,12 +14,7 @@ high-lt x m x_in m_in = div_below (x * m) (2 ^ 64) (2 ^ 64) (lit< tt) (mul-lt x 
 
 -- a word, and a product of its low half: that half is known by that of the sum
 of_back : UndoesWords 64 (λ b. add 64 b (b % 2 ^ 32 * 0x85ebca76)) (λ s. sub 64 s (s % 2 ^ 32 * 0xb6c92f47 % 2 ^ 32 * 0x85ebca76))
-of_back = record {
-  there_in = λ b b_in. mod_below _ (2 ^ 64) (lit< tt);
-  back_in = λ s s_in. mod_below _ (2 ^ 64) (lit< tt);
-  back = λ b b_in. omega arith;
-  there = λ s s_in. omega arith;
-}
+of_back = grind (arith, nat_tests, common_steps, mod_below, lit<)
 
 -- the two words of the hash from the two of the text, folded under two of the secret
 abbrev pub mixed : (len f g : ℕ) → ℕ × ℕ → ℕ × ℕ

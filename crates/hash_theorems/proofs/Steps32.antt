@@ -1,5 +1,5 @@
 -- XXH32's steps undo, and are undone by, their way back.
-use Rattle.hash_theorems.proofs.BlockCommon.{◌≡◌, ℕ, zero, suc, ◌^◌, ◌<◌, ◌≤◌, List, slice_index, refl, arith, lit<, lit≤, mod_below, pow_pos, le, rotl, add, sub, UndoesWords, ◌▷◌, turned_round, folded, added, added_onto, rotated, multiplied, shifted, shifted_less, IsText, IsByte, blocks, blocks_seen, q1, q2, q3, q4, q5, tail, blocks_before, words_of, converged, un_q1, un_q2, un_q3, un_q4, unturned, lane_back, four_between, word_between, turn_of, lane_for, four_out, byte_out, lane_out, rest_out, last_unmix, product, round, start, after_block, four_in, byte_in, rest_in, last_mix}
+use Rattle.hash_theorems.proofs.BlockCommon.{◌≡◌, ℕ, zero, suc, ◌^◌, ◌<◌, ◌≤◌, List, slice_index, refl, arith, lit<, lit≤, mod_below, pow_pos, le, rotl, add, sub, UndoesWords, ◌▷◌, turned_round, folded, added, added_onto, rotated, multiplied, shifted, shifted_less, IsText, IsByte, blocks, blocks_seen, q1, q2, q3, q4, q5, tail, blocks_before, words_of, converged, un_q1, un_q2, un_q3, un_q4, unturned, lane_back, four_between, word_between, turn_of, lane_for, four_out, byte_out, lane_out, rest_out, last_unmix, product, round, start, after_block, four_in, byte_in, rest_in, last_mix, common_steps, nat_tests, rules}
 use Rattle.hash_words.proofs.WordLemmas.{rotl-lt}
 use Rattle.hash_theorems.proofs.BackLemmas.{taken_back, tail-left}
 
@@ -117,16 +117,8 @@ module _ (s t : List ℕ) where
   pub sum-by : (place : ℕ) → place < 4 → slice_index s place < 2 ^ 32 → ((j : ℕ) → j < 4 → (j ≡ place → ⊥) → slice_index t j ≡ slice_index s j)
       → converged t ≡ add 32 (sub 32 (rotl 32 (slice_index t place) (turn_of place)) (rotl 32 (slice_index s place) (turn_of place))) (converged s)
   unfolding converged
-  sum-by zero below s_in others =
-      rw (others 1 (lit< tt) (λ e. omega arith), others 2 (lit< tt) (λ e. omega arith), others 3 (lit< tt) (λ e. omega arith))
-      (first _ _ _ _ _ (rotl-lt 32 _ 1 (lit≤ tt) s_in))
-  sum-by (suc zero) below s_in others =
-      rw (others 0 (lit< tt) (λ e. omega arith), others 2 (lit< tt) (λ e. omega arith), others 3 (lit< tt) (λ e. omega arith))
-      (second _ _ _ _ _ (rotl-lt 32 _ 7 (lit≤ tt) s_in))
-  sum-by (suc (suc zero)) below s_in others =
-      rw (others 0 (lit< tt) (λ e. omega arith), others 1 (lit< tt) (λ e. omega arith), others 3 (lit< tt) (λ e. omega arith))
-      (third _ _ _ _ _ (rotl-lt 32 _ 12 (lit≤ tt) s_in))
-  sum-by (suc (suc (suc zero))) below s_in others =
-      rw (others 0 (lit< tt) (λ e. omega arith), others 1 (lit< tt) (λ e. omega arith), others 2 (lit< tt) (λ e. omega arith))
-      (fourth _ _ _ _ _ (rotl-lt 32 _ 18 (lit≤ tt) s_in))
+  sum-by zero below s_in others = search (rules, lit<, first, rotl-lt, lit≤)
+  sum-by (suc zero) below s_in others = search (rules, lit<, second, rotl-lt, lit≤)
+  sum-by (suc (suc zero)) below s_in others = search (rules, lit<, third, rotl-lt, lit≤)
+  sum-by (suc (suc (suc zero))) below s_in others = grind (arith, nat_tests, common_steps, lit<, fourth, rotl-lt, lit≤)
   sum-by (suc (suc (suc (suc place)))) below s_in others = absurd (omega arith)

@@ -1,5 +1,5 @@
 -- Words that are added to as many others, and the bytes of words: both are undone.
-use Rattle.hash_theorems.proofs.JenkinsCommon.{◌≡◌, ◌+◌, ◌*◌, ◌^◌, ◌<◌, ◌∷◌, ◌∙◌, ℕ, List, [], length, get_or, slice_index, slice_set, map, refl, sym, arith, ap₂, add_comm, add-zero, flat_map, mod-eq_of_lt, Width, to_le_bytes, first_chunks, set-get_or, length-map, length-append, All, All-nil, All-append, All-head, All-tail, All-map, take_at, drop_at, add, AreWords-at, AreWords-from, IsPiece, length-first_chunks, first_chunks-pieces, all_words-same, Step, AddData, AreNWords, Undoes, IsWord, likewise, of_steps, IsText, IsByte, IsText-to_le_bytes, le, apply, undo, differences, missing}
+use Rattle.hash_theorems.proofs.JenkinsCommon.{◌≡◌, ◌*◌, ◌^◌, ◌<◌, ◌∷◌, ◌∙◌, ℕ, List, [], length, get_or, slice_index, slice_set, map, refl, arith, ap₂, add_comm, add-zero, flat_map, mod-eq_of_lt, Width, to_le_bytes, first_chunks, set-get_or, length-map, length-append, All, All-nil, All-append, All-head, All-tail, All-map, take_at, drop_at, add, AreWords-at, AreWords-from, IsPiece, length-first_chunks, first_chunks-pieces, all_words-same, Step, AddData, AreNWords, Undoes, IsWord, likewise, of_steps, IsText, IsByte, IsText-to_le_bytes, le, apply, undo, differences, missing}
 
 pub add-nothing : (w i : ℕ) (s : List ℕ) → slice_index s i < 2 ^ w → slice_set s i (add w (slice_index s i) 0) ≡ s
 add-nothing w i s s_in = rw (add-zero (slice_index s i), mod-eq_of_lt s_in) (set-get_or s i 0)

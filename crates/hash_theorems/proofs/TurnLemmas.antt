@@ -1,5 +1,5 @@
 -- A word with two rotations of itself folded on, bit by bit, and how that is undone.
-use Rattle.hash_theorems.proofs.Xxh3Common.{◌≡◌, ℕ, ◌+◌, ◌-◌, ◌/◌, ◌%◌, ◌^◌, ◌<◌, ◌≤◌, bit_xor, refl, sym, ◌∙◌, ap, subst, lit<, lit≤, add_comm, arith, inl, inr, bit_at, cases_lt, shr_below, xor_lt, rotl, turned, UndoesWords, rooted, rotated, rotl-lt, rotl_split}
+use Rattle.hash_theorems.proofs.Xxh3Common.{◌≡◌, ℕ, ◌+◌, ◌-◌, ◌/◌, ◌%◌, ◌^◌, ◌<◌, ◌≤◌, bit_xor, refl, sym, ◌∙◌, ap, lit<, lit≤, add_comm, arith, bit_at, cases_lt, shr_below, xor_lt, rotl, turned, UndoesWords, rooted, rotated, rotl-lt, rotl_split, common_steps, nat_tests, rules}
 use Rattle.std.proofs.lemmas.Nat.Bits.{bit_at-lt, bit_at_xor, bit_at_cat_low, bit_at_cat_high, same_from_bits_below}
 use Rattle.hash_words.proofs.BitLemmas.{bit_at-shr, bit_at-low}
 
@@ -14,17 +14,7 @@ module _ (a k x j : ℕ) (x_in : x < 2 ^ (a + k)) where
 
 -- the bit at j of a word of 64 bits that is rotated by k comes from the place a further, where a is the rest of the width
 pub bit_at-rotl : (a k x j : ℕ) → a + k ≡ 64 → 0 < a → x < 2 ^ 64 → j < 64 → bit_at (rotl 64 x k) j ≡ bit_at x ((j + a) % 64)
-bit_at-rotl a k x j width some x_in j_in =
-    let in_parts : x < 2 ^ (a + k) = rw width x_in in
-    let moved : ℕ → Type 0 = λ w. bit_at (rotl w x k) j ≡ bit_at x ((j + a) % 64) in
-    subst moved width (elim (cases_lt j k) [
-      | inl below ↦
-          let place : (j + a) % 64 ≡ j + a = omega arith in
-          rotated_below a k x j in_parts below ∙ ap (bit_at x) (sym place)
-      | inr above ↦
-          let place : (j + a) % 64 ≡ j - k = omega arith in
-          rotated_above a k x j in_parts above (omega arith) ∙ ap (bit_at x) (sym place)
-    ])
+bit_at-rotl a k x j width some x_in j_in = grind (arith, nat_tests, common_steps, cases_lt, rotated_below, rotated_above)
 
 -- ---- two rotations folded on
 
@@ -59,14 +49,7 @@ module _ (a k b l : ℕ) (first : a + k ≡ 64) (second : b + l ≡ 64) (a_some 
         let at_a : ((j + a) % 64 + a) % 64 ≡ (j + (a + a) % 64) % 64 = omega arith in
         let at_b : ((j + b) % 64 + b) % 64 ≡ (j + (b + b) % 64) % 64 = omega arith in
         let both : ((j + b) % 64 + a) % 64 ≡ ((j + a) % 64 + b) % 64 = omega arith in
-        let whole = bit_at-turned y j y_in j_in in
-        let none = bit_at-turned x j x_in j_in in
-        let more_a = bit_at-turned x ((j + a) % 64) x_in (omega arith) in
-        let more_b = bit_at-turned x ((j + b) % 64) x_in (omega arith) in
-        let e1 = ap (bit_at x) at_a in
-        let e2 = ap (bit_at x) at_b in
-        let e3 = ap (bit_at x) both in
-        omega (arith, whole, none, more_a, more_b, e1, e2, e3)
+        search (rules, bit_at-turned, y, y_in)
 
 -- that is two other rotations
 pub turned-square : (a k b l a' k' b' l' x : ℕ) → a + k ≡ 64 → b + l ≡ 64 → 0 < a → 0 < b

@@ -1,5 +1,5 @@
 -- The hash of 128 bits loses nothing of texts of one length of at most 16 bytes.
-use Rattle.hash_theorems.proofs.Xxh3Common.{◌≡◌, ℕ, ◌+◌, ◌-◌, ◌*◌, ◌/◌, ◌%◌, ◌^◌, ◌<◌, ◌≤◌, nat_lt, true, false, List, ◌++◌, length, w64, bit_xor, refl, sym, ◌∙◌, ap, lit<, lit≤, arith, inl, inr, ap₂, mul-div_cancel, cases_lt, nat_tests, nil_from_length, mod_below, shr_split, IsText, add, Undoes, IsPiece, to_le_bytes, ◌▷◌, likewise, told, xored, multiplied, shifted, shifted_less, word-same, word_at, half_at, times}
+use Rattle.hash_theorems.proofs.Xxh3Common.{◌≡◌, ℕ, ◌+◌, ◌-◌, ◌*◌, ◌/◌, ◌%◌, ◌^◌, ◌<◌, ◌≤◌, List, ◌++◌, length, w64, refl, sym, ◌∙◌, ap, lit<, lit≤, arith, mul-div_cancel, cases_lt, nat_tests, nil_from_length, mod_below, shr_split, IsText, add, Undoes, IsPiece, to_le_bytes, ◌▷◌, likewise, told, xored, multiplied, shifted, shifted_less, word-same, word_at, half_at, times, common_steps, rules}
 use Rattle.hash_xxh3.specs.Wide
 use Rattle.hash_theorems.proofs.ShortLemmas.{piece-lt, by_ends, of_few-same, word_at-lt}
 use Rattle.hash_theorems.proofs.MixLemmas.{of_avalanche}
@@ -34,10 +34,7 @@ eight_high-same p q p_in q_in lows same =
     word-same (p / 2 ^ 64) (q / 2 ^ 64) (times (p % 2 ^ 64) 2) p_in q_in (same ∙ ap (λ n. add 64 (q / 2 ^ 64) (times n 2)) (sym lows))
 
 wide_words-same : (p q : ℕ) → p / 2 ^ 64 < 2 ^ 64 → q / 2 ^ 64 < 2 ^ 64 → Wide.wide_words p ≡ Wide.wide_words q → p ≡ q
-wide_words-same p q p_in q_in same =
-    let highs = told of_avalanche (Wide.eight_high p) (Wide.eight_high q) (eight_high-lt p) (eight_high-lt q) (ap (λ (w : ℕ × ℕ). w.1) same) in
-    let lows = eight_low-same p q (Wide.eight_high p) (eight_high-lt p) (ap (λ (w : ℕ × ℕ). w.0) same ∙ ap (Wide.eight_low q) (sym highs)) in
-    sym (shr_split p 64) ∙ ap₂ (λ (a b : ℕ). a * 2 ^ 64 + b) (eight_high-same p q p_in q_in lows highs) lows ∙ shr_split q 64
+wide_words-same p q p_in q_in same = search (rules, told, of_avalanche, eight_high-lt, eight_low-same, shr_split, eight_high-same)
 
 module _ (len : ℕ) (len_in : len < 16) where
   eight_product-lt : (w : ℕ) → w < 2 ^ 64 → Wide.eight_product len w / 2 ^ 64 < 2 ^ 64
@@ -46,10 +43,7 @@ module _ (len : ℕ) (len_in : len < 16) where
 
   eight_product-same : (v w : ℕ) → Wide.eight_product len v ≡ Wide.eight_product len w → v ≡ w
   unfolding Wide.eight_product
-  eight_product-same v w same =
-      let m = 0x9e3779b185ebca87 + 4 * len in
-      let some : 0 < m = omega arith in
-      sym (mul-div_cancel v some) ∙ ap (λ n. n / m) same ∙ mul-div_cancel w some
+  eight_product-same v w same = grind (arith, nat_tests, common_steps, mul-div_cancel)
 
 number-lt : (x : List ℕ) → IsText x → Wide.eight_wide_number x < 2 ^ 64
 unfolding Wide.eight_wide_number
@@ -74,60 +68,27 @@ wide_eight-same seed x y xs ys len some few same =
     let len_in : length x < 16 = omega arith in
     let of_flip = xored 64 (Wide.eight_wide_flip seed) (flip-lt seed) in
     let product = λ (t : List ℕ) (ts : IsText t). eight_product-lt (length x) len_in _ (of_flip.there_in (Wide.eight_wide_number t) (number-lt t ts)) in
-    let led = wide_words-same _ _ (product x xs) (product y ys) (same
-    ∙ ap (λ n. Wide.wide_words (Wide.eight_product n (bit_xor (Wide.eight_wide_number y) (Wide.eight_wide_flip seed)))) (sym len)) in
-    number-same x y xs ys len some few (told of_flip (Wide.eight_wide_number x) (Wide.eight_wide_number y) (number-lt x xs) (number-lt y ys)
-    (eight_product-same (length x) len_in _ _ led))
+    search (rules, wide_words-same, number-same, told, number-lt, eight_product-same)
 
 -- ---- all of them
 
 pub is_short : (seed : ℕ) (x : List ℕ) → length x < 17 → Wide.xxh3_128_of seed x ≡ Wide.wide_short seed x
 unfolding Wide.xxh3_128_of
-is_short seed x few =
-    let t1 : nat_lt (length x) 241 ≡ true = grind (arith, nat_tests) in
-    let t2 : nat_lt (length x) 17 ≡ true = grind (arith, nat_tests) in
-    rw (t1, t2) refl
+is_short seed x few = grind (arith, nat_tests, common_steps)
 
 is_few : (seed : ℕ) (x : List ℕ) → 1 ≤ length x → length x < 4 → Wide.wide_short seed x ≡ Wide.wide_few seed x
-is_few seed x some few =
-    let t1 : nat_lt (length x) 1 ≡ false = grind (arith, nat_tests) in
-    let t2 : nat_lt (length x) 4 ≡ true = grind (arith, nat_tests) in
-    rw (t1, t2) refl
+is_few seed x some few = grind (arith, nat_tests, common_steps)
 
 is_eight : (seed : ℕ) (x : List ℕ) → 4 ≤ length x → length x < 9 → Wide.wide_short seed x ≡ Wide.wide_eight seed x
-is_eight seed x some few =
-    let t1 : nat_lt (length x) 1 ≡ false = grind (arith, nat_tests) in
-    let t2 : nat_lt (length x) 4 ≡ false = grind (arith, nat_tests) in
-    let t3 : nat_lt (length x) 9 ≡ true = grind (arith, nat_tests) in
-    rw (t1, t2, t3) refl
+is_eight seed x some few = grind (arith, nat_tests, common_steps)
 
 pub is_sixteen : (seed : ℕ) (x : List ℕ) → 9 ≤ length x → Wide.wide_short seed x ≡ Wide.wide_sixteen seed x
-is_sixteen seed x some =
-    let t1 : nat_lt (length x) 1 ≡ false = grind (arith, nat_tests) in
-    let t2 : nat_lt (length x) 4 ≡ false = grind (arith, nat_tests) in
-    let t3 : nat_lt (length x) 9 ≡ false = grind (arith, nat_tests) in
-    rw (t1, t2, t3) refl
+is_sixteen seed x some = grind (arith, nat_tests, common_steps)
 
 pub short_same : (seed : ℕ) (x y : List ℕ) → IsText x → IsText y → length x ≡ length y → length x < 17
     → Wide.xxh3_128_of seed x ≡ Wide.xxh3_128_of seed y → x ≡ y
 short_same seed x y xs ys len few same =
-    let led = sym (is_short seed x few) ∙ same ∙ is_short seed y (omega arith) in
-    elim (cases_lt (length x) 1) [
-      | inl none ↦ nil_from_length x (omega arith) ∙ sym (nil_from_length y (omega arith))
-      | inr some ↦ elim (cases_lt (length x) 4) [
-        | inl below ↦
-            of_few-same seed x y xs ys below (omega (arith, below, len))
-            (ap (λ (w : ℕ × ℕ). w.0) (sym (is_few seed x some below) ∙ led ∙ is_few seed y (omega (arith, some, len)) (omega (arith, below, len))))
-        | inr four ↦ elim (cases_lt (length x) 9) [
-          | inl below ↦
-              wide_eight-same seed x y xs ys len four below
-              (sym (is_eight seed x four below) ∙ led ∙ is_eight seed y (omega (arith, four, len)) (omega (arith, below, len)))
-          | inr nine ↦
-              wide_sixteen-same seed x y xs ys len nine few
-              (sym (is_sixteen seed x nine) ∙ led ∙ is_sixteen seed y (omega (arith, nine, len)))
-        ]
-      ]
-    ]
+    search (rules, is_short, cases_lt, nil_from_length, of_few-same, is_few, wide_eight-same, is_eight, wide_sixteen-same)
 
 -- ---- sixteen bytes, and their hash
 

@@ -1,5 +1,7 @@
 -- How far apart two states are, modulo m, as products of a step's multiplier with small differences.
-use Rattle.std.proofs.Common.{◌≡◌, ℕ, suc, ◌+◌, ◌*◌, ◌/◌, ◌%◌, ◌^◌, ◌<◌, ◌≢◌, ap, sym, ◌∙◌, arith}
+use Rattle.std.proofs.lemmas.Grind.{common_steps}
+use Rattle.std.proofs.lemmas.Bool.Decides.{nat_tests}
+use Rattle.std.proofs.Common.{◌≡◌, ℕ, suc, ◌+◌, ◌*◌, ◌/◌, ◌%◌, ◌^◌, ◌<◌, ◌≢◌, arith}
 use Rattle.hash_laws.proofs.WindowLemmas.{Separates}
 use Rattle.std.proofs.Math.Nat.{mod-add-mod}
 use Rattle.hash_laws.specs.StepFacts.{StepFacts}
@@ -38,15 +40,7 @@ OneByte-times m p h y z yh zh ne =
     let sums : y + z % 256 ≡ z + y % 256 = omega arith in
     let first : y * p + p * (z % 256) ≡ (y + z % 256) * p = omega arith in
     let second : z * p + p * (y % 256) ≡ (z + y % 256) * p = omega arith in
-    record {
-      c = y % 256;
-      d = z % 256;
-      c_byte = omega arith;
-      d_byte = omega arith;
-      differ = omega arith;
-      apart = mod-add-mod (y * p) m (p * (z % 256)) ∙ ap (λ n. n % m) (first ∙ ap (λ n. n * p) sums ∙ sym second)
-          ∙ sym (mod-add-mod (z * p) m (p * (y % 256)));
-    }
+    grind (arith, nat_tests, common_steps, mod-add-mod (y * p) m (p * (z % 256)), mod-add-mod (z * p) m (p * (y % 256)))
 
 -- a step on numbers below a bound that separates them by neighbouring bytes
 pub separates : {step : ℕ → ℕ → ℕ} {bound places : ℕ} {Apart : ℕ → ℕ → ℕ → Type 0} → StepFacts step bound 256
@@ -54,10 +48,4 @@ pub separates : {step : ℕ → ℕ → ℕ} {bound places : ℕ} {Apart : ℕ �
     → ((n h k a b : ℕ) → suc n < places → h < bound → k < bound → a < 256 → b < 256 → Apart n h k → Apart (suc n) (step h a) (step k b))
     → ((n h k : ℕ) → Apart n h k → h ≢ k)
     → Separates step (λ h. h < bound) places 0 Apart
-separates facts first next apart = record {
-  in_range = facts.in_range;
-  state_injective = facts.state_injective;
-  first = λ h a b hs sa sb mask. first h a b sa sb;
-  next = λ n h k a b fits hs ks sa sb mask. next n h k a b fits hs ks sa sb;
-  apart = apart;
-}
+separates facts first next apart = grind (arith, nat_tests, common_steps)

@@ -1,6 +1,6 @@
 -- Whether two lists of pieces differ at exactly one word, by counting.
-use Rattle.hash_theorems.proofs.FxCommon.{◌≡◌, ◌↔◌, ℕ, zero, suc, ◌+◌, ◌<◌, ◌≤◌, Bor, List, [], ◌∷◌, length, take, drop, get_or, flat_map, arith, refl, sym, ap, ◌∙◌, ap₂, texts, differences, DifferByOneWord}
-use Rattle.std.proofs.Common.{length-append, take_all}
+use Rattle.hash_theorems.proofs.FxCommon.{◌≡◌, ◌↔◌, ℕ, zero, suc, ◌+◌, ◌<◌, ◌≤◌, Bor, List, [], ◌∷◌, length, take, drop, get_or, flat_map, arith, refl, sym, ◌∙◌, ap₂, texts, differences, DifferByOneWord, common_steps, nat_tests, rules}
+use Rattle.std.proofs.Common.{length-append}
 use Rattle.hash_fx.proofs.CutsLemmas.{Pieces, SameCuts, SameCuts-length}
 use Rattle.hash_theorems.proofs.DifferencesLemmas.{differences-append, one-OneApart, OneApart-one}
 use Rattle.hash_fx.proofs.OneApart.{one_from_DifferAtOnePlace, DifferAtOnePlace-from_one}
@@ -31,10 +31,7 @@ module _ (words : List ℕ → List ℕ) (long : (x y : List ℕ) → length x �
       + differences (words (get_or x i d).now) (words (get_or y i d).now)
   one-more [] y i d cuts below = absurd (omega (arith, below))
   one-more (p ∷ x) [] i d cuts below = cc
-  one-more (p ∷ x) (q ∷ y) zero d cuts below =
-      let len : length p.now ≡ length q.now = cc in
-      let first = first-and-rest p q [] [] len in
-      omega (arith, first)
+  one-more (p ∷ x) (q ∷ y) zero d cuts below = grind (arith, nat_tests, common_steps, first-and-rest)
   one-more (p ∷ x) (q ∷ y) (suc i) d cuts below =
       let len : length p.now ≡ length q.now = cc in
       let later : SameCuts x y = cc in
@@ -48,9 +45,7 @@ module _ (words : List ℕ → List ℕ) (long : (x y : List ℕ) → length x �
       → differences (words_of words (take (i + 1) x)) (words_of words (take (i + 1) y))
       ≡ differences (words_of words (take i x)) (words_of words (take i y))
       + differences (words (get_or x i d).now) (words (get_or y i d).now)
-  more-words x y i d cuts below =
-      let next : i + 1 ≡ suc i = omega arith in
-      ap (λ k. differences (words_of words (take k x)) (words_of words (take k y))) next ∙ one-more x y i d cuts below
+  more-words x y i d cuts below = search (rules, one-more)
 
   in-two : (x y : Pieces) (i : ℕ) → SameCuts x y
       → differences (words_of words x) (words_of words y)
@@ -64,17 +59,12 @@ module _ (words : List ℕ → List ℕ) (long : (x y : List ℕ) → length x �
       let len : length p.now ≡ length q.now = cc in
       let later : SameCuts x y = cc in
       let whole = first-and-rest p q x y len in
-      let front = first-and-rest p q (take i x) (take i y) len in
-      let rest = in-two x y i later in
-      omega (arith, whole, front, rest)
+      grind (arith, nat_tests, common_steps, first-and-rest p q (take i x) (take i y) len, take i x, take i y, in-two x y i later)
 
   -- one difference in all is one word
   pub DifferByOneWord-iff : (x y : Pieces) → SameCuts x y → (differences (words_of words x) (words_of words y) ≡ 1)
       ↔ DifferByOneWord words x y
-  DifferByOneWord-iff x y cuts = (
-    (λ one. record { same_cuts = cuts; one_word = DifferAtOnePlace-from_one _ _ (one-OneApart _ _ (as-many x y cuts) one) }),
-    λ d. OneApart-one _ _ (one_from_DifferAtOnePlace _ _ d.one_word),
-  )
+  DifferByOneWord-iff x y cuts = search (rules, DifferAtOnePlace-from_one, one-OneApart, as-many, OneApart-one, one_from_DifferAtOnePlace)
 
   -- two differences are too many
   pub too-many : (x y : Pieces) (i : ℕ) → SameCuts x y → 1 < differences (words_of words (take i x)) (words_of words (take i y))
@@ -84,6 +74,4 @@ module _ (words : List ℕ → List ℕ) (long : (x y : List ℕ) → length x �
   -- all pieces
   pub at-the-end : (x y : Pieces) (i : ℕ) → SameCuts x y → length x ≤ i
       → differences (words_of words (take i x)) (words_of words (take i y)) ≡ differences (words_of words x) (words_of words y)
-  at-the-end x y i cuts end =
-      ap₂ (λ u v. differences (words_of words u) (words_of words v)) (take_all i x end)
-      (take_all i y (omega (arith, end, SameCuts-length x y cuts)))
+  at-the-end x y i cuts end = grind (arith, nat_tests, common_steps, SameCuts-length x y cuts)

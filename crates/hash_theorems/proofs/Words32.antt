@@ -1,7 +1,6 @@
 -- XXH32 as a function of one word of four bytes.
-use Rattle.hash_theorems.proofs.BlockCommon.{◌≡◌, ◌≢◌, ℕ, ◌+◌, ◌-◌, ◌*◌, ◌/◌, ◌%◌, ◌^◌, ◌<◌, ◌≤◌, nat_lt, false, List, [], ◌∷◌, ◌++◌, length, slice_index, take, drop, fold, refl, sym, ap, ◌∙◌, arith, lit<, inl, inr, length-append, length-drop, drop_of_length-le, ap₂, take-add, cases_lt, All-drop, add-mod-mod, mod_below, pow_pos, first_chunks, le, rotl, add, sub, Undoes, IsWord, part-same, length-first_chunks, ◌▷◌, likewise, added, IsText, IsByte, IsFirstDifference, DifferInOneBlock, blocks, blocks_on, blocks_one, blocks_short, blocks-append, tail_on, tail_short, tail-append, xxh32, of_four_bytes, pieces, tail, words_of, converged, IsBlock, lane_back, four_between, word_between, lane_for, turn_of, begun, rest_out, last_unmix, round, start, after_block, four_in, byte_in, fours_in, rest_in, last_mix}
-use Rattle.std.proofs.lemmas.Bool.Decides.{nat_tests}
-use Rattle.std.proofs.lemmas.List.{append_assoc, take-append-drop, take_at, drop_at, get_or-map, length-take-le, append-nil}
+use Rattle.hash_theorems.proofs.BlockCommon.{◌≡◌, ◌≢◌, ℕ, ◌+◌, ◌-◌, ◌*◌, ◌/◌, ◌%◌, ◌^◌, ◌<◌, ◌≤◌, List, [], ◌∷◌, ◌++◌, length, slice_index, take, drop, fold, refl, sym, ap, ◌∙◌, arith, lit<, inl, inr, length-append, length-drop, drop_of_length-le, ap₂, take-add, cases_lt, All-drop, add-mod-mod, mod_below, pow_pos, first_chunks, le, rotl, add, sub, Undoes, IsWord, part-same, length-first_chunks, ◌▷◌, likewise, added, IsText, IsByte, IsFirstDifference, DifferInOneBlock, blocks, blocks_on, blocks_one, blocks_short, blocks-append, tail_on, tail_short, tail-append, xxh32, of_four_bytes, pieces, tail, words_of, converged, IsBlock, lane_back, four_between, word_between, lane_for, turn_of, begun, rest_out, last_unmix, round, start, after_block, four_in, byte_in, fours_in, rest_in, last_mix, common_steps, nat_tests, rules}
+use Rattle.std.proofs.lemmas.List.{append_assoc, take-append-drop, take_at, drop_at, get_or-map, length-take-le}
 use Rattle.std.specs.Int.{w32, to_le_bytes}
 use borrow.Rule.Slice.PartMut.{put_mid}
 use Rattle.hash_words.proofs.Chunks.{get_or-first_chunks}
@@ -50,16 +49,7 @@ block_around : (ahead near zs : List ℕ) → length ahead + 4 + length near ≡
     → put_mid (length ahead + 4) (16 - (length ahead + 4)) (ahead ++ drop (length ahead) zs) near
     ≡ ahead ++ (take 4 (drop (length ahead) zs) ++ near)
 block_around ahead near zs sizes all =
-    let n = length ahead in
-    let behind = drop n zs in
-    let first : take (n + 4) (ahead ++ behind) ≡ ahead ++ take 4 behind =
-    take-add n 4 (ahead ++ behind)
-    ∙ ap₂ (λ (a b : List ℕ). a ++ take 4 b) (take_at ahead behind n refl) (drop_at ahead behind n refl) in
-    let none : drop (16 - (n + 4)) (drop (n + 4) (ahead ++ behind)) ≡ [] =
-    drop_of_length-le (drop (n + 4) (ahead ++ behind)) {i = 16 - (n + 4)}
-    (omega (arith, sizes, all, length-append ahead behind, length-drop n zs, length-drop (n + 4) (ahead ++ behind))) in
-    ap₂ (λ (a b : List ℕ). a ++ (near ++ b)) first none ∙ ap (λ (t : List ℕ). (ahead ++ take 4 behind) ++ t) (append-nil near)
-    ∙ append_assoc ahead (take 4 behind) near
+    grind (arith, nat_tests, common_steps, take-add, take_at, drop_at, drop_of_length-le, length-append)
 
 pub around : (ahead near zs a b : List ℕ) → length ahead + 4 + length near ≡ 16 → length zs ≡ 16 → a ≡ ahead → b ≡ near
     → (word : List ℕ) × (length word ≡ 4)
@@ -74,10 +64,9 @@ around ahead near zs a b sizes all a_is b_is = (
 word-at : (b : List ℕ) (j : ℕ) → length b ≡ 16 → j < 4 → slice_index (words_of b) j ≡ le (take 4 (drop (j * 4) b))
 unfolding words_of pieces
 word-at b j size below =
-    let four : length b / 4 ≡ 4 = omega (arith, size) in
-    let inside : j < length (first_chunks 4 (length b / 4) b) = omega (arith, below, four, length-first_chunks 4 (length b / 4) b) in
+    let inside : j < length (first_chunks 4 (length b / 4) b) = omega (arith, below, length-first_chunks 4 (length b / 4) b) in
     get_or-map le (first_chunks 4 (length b / 4) b) j [] 0 inside
-    ∙ ap le (get_or-first_chunks 4 (length b / 4) j b [] (omega (arith, below, four)))
+    ∙ ap le (get_or-first_chunks 4 (length b / 4) j b [] (omega (arith, below)))
 
 module _ (seed : ℕ) (seed_in : seed < 2 ^ 32) (front back : List ℕ) (fronts : IsText front) (backs : IsText back)
     (place : length front % 4 ≡ 0) (inside : 16 ≤ length front % 16 + 4 + length back) where
@@ -130,9 +119,7 @@ module _ (seed : ℕ) (seed_in : seed < 2 ^ 32) (front back : List ℕ) (fronts 
         ∙ ap (λ (s : List ℕ). blocks 16 after_block s later) (blocks_one 16 (lit< tt) after_block before (block w) block-size) in
         let left : tail 16 (front ++ (w ++ back)) ≡ tail 16 later =
         sym (tail_on 16 (lit< tt) front (w ++ back)) ∙ ap (tail 16) regrouped ∙ tail-append 16 (lit< tt) (block w) later 1 once in
-        let long : nat_lt m 16 ≡ false = (let many : 16 ≤ m = omega (arith, inside) in grind (arith, nat_tests)) in
-        rw (framed-length 4 (lit< tt) front w back whole, long, lanes, left)
-        (ap (λ (h : ℕ). last_mix (rest_in h (tail 16 later))) (sym (add-mod-mod (converged (lanes_of w)) m (2 ^ 32))))
+        grind (arith, nat_tests, common_steps, framed-length, lit<, last_mix, rest_in, tail, add-mod-mod, converged)
 
     here : slice_index (lanes_of w) i
         ≡ blocks 16 (λ lane block. round lane (slice_index (words_of block) i)) (round (slice_index before i) (le w)) later
@@ -149,18 +136,9 @@ module _ (seed : ℕ) (seed_in : seed < 2 ^ 32) (front back : List ℕ) (fronts 
   elsewhere v w vs ws j below other =
       let parts : take 4 (drop (j * 4) (block v)) ≡ take 4 (drop (j * 4) (block w)) =
       part-same 4 (j * 4) (block v) (block w) (block-size v vs ∙ sym (block-size w ws)) (λ k k_in.
-      same_outside ahead_in_block v w (take rest back) (j * 4 + k) (vs ∙ sym ws) (elim (cases_lt j i) [
-        | inl smaller ↦ inl (omega (arith, smaller, k_in, size))
-        | inr reached ↦ elim (cases_lt i j) [
-          | inl larger ↦ inr (omega (arith, larger, size, vs))
-          | inr same ↦ absurd (other (omega (arith, same, reached)))
-        ]
-      ])) in
+      grind (arith, nat_tests, common_steps, same_outside, cases_lt, size)) in
       let words = word-at (block v) j (block-size v vs) below ∙ ap le parts ∙ sym (word-at (block w) j (block-size w ws) below) in
-      lane-blocks (after_block before (block v)) later j below
-      ∙ ap (λ (l : ℕ). blocks 16 (λ lane block. round lane (slice_index (words_of block) j)) l later)
-      (lane-block before (block v) j below ∙ ap (round (slice_index before j)) words ∙ sym (lane-block before (block w) j below))
-      ∙ sym (lane-blocks (after_block before (block w)) later j below)
+      search (rules, lane-blocks, after_block, blocks, round, words_of, lane-block)
 
   -- the word in a block, by the lanes with another word in its place
   pub word_inside : (z : List ℕ) → length z ≡ 4 → Undoes (IsBlock 4) (IsWord 32) (λ w. xxh32 seed (front ++ (w ++ back)))

@@ -1,5 +1,5 @@
 -- XXH64 as a function of one word of eight bytes behind its whole blocks.
-use Rattle.hash_theorems.proofs.BlockCommon.{◌≡◌, ◌≢◌, ℕ, ◌+◌, ◌*◌, ◌/◌, ◌%◌, ◌^◌, ◌<◌, ◌≤◌, List, ◌++◌, length, fold, refl, sym, ap, ◌∙◌, arith, lit<, length-append, ap₂, mod_below, pow_pos, le, add, Undoes, IsWord, ◌▷◌, likewise, IsText, IsFirstDifference, DifferInOneBlock, blocks_on, blocks_short, tail_on, tail_short, eights_in, xxh64, tail, eight_in, IsBlock, eight_between}
+use Rattle.hash_theorems.proofs.BlockCommon.{◌≡◌, ◌≢◌, ℕ, ◌+◌, ◌*◌, ◌/◌, ◌%◌, ◌^◌, ◌<◌, ◌≤◌, List, ◌++◌, length, fold, refl, sym, ap, ◌∙◌, arith, lit<, length-append, ap₂, mod_below, pow_pos, le, add, Undoes, IsWord, ◌▷◌, likewise, IsText, IsFirstDifference, DifferInOneBlock, blocks_on, blocks_short, tail_on, tail_short, eights_in, xxh64, tail, eight_in, IsBlock, eight_between, common_steps, nat_tests}
 use Rattle.hash_blocks.specs.Xxh64.{start, after_block, byte_in, fours_in, rest_in, last_mix}
 use Rattle.hash_theorems.specs.Xxh64Back.{begun, rest_out, last_unmix}
 use Rattle.hash_theorems.specs.Xxh64Words.{IsBehind, DifferInOneLastWord}
@@ -26,7 +26,6 @@ module _ (seed : ℕ) (front back : List ℕ) (fronts : IsText front) (backs : I
   hash-is : (w : List ℕ) → length w ≡ 8 → xxh64 seed (front ++ (w ++ back)) ≡ last_mix (rest_in (eight_in from (le w)) back)
   hash-is w whole =
       let at = place.place in
-      let behind = place.behind in
       let few : length (tail 32 front ++ (w ++ back)) < 32 =
       omega (arith, length-append (tail 32 front) (w ++ back), length-append w back, length-tail 32 (lit< tt) front, whole) in
       let lanes = sym (blocks_on 32 (lit< tt) after_block (start seed) front (w ++ back)) ∙ blocks_short 32 (lit< tt) after_block _ _ few in
@@ -50,10 +49,7 @@ last_word-differs seed x y xs ys last =
     let back = behind 8 (lit< tt) x y xs ys differ fits in
     let front_is = ahead-is 8 (lit< tt) x y xs ys differ fits in
     let back_is = behind-is 8 (lit< tt) x y xs ys differ fits in
-    let place : IsBehind (length front) (length back) = record {
-      place = omega (arith, front_is.1);
-      behind = omega (arith, front_is.1, back_is.1);
-    } in
+    let place : IsBehind (length front) (length back) = grind (arith, nat_tests, common_steps, behind) in
     shows 8 (lit< tt) x y xs ys differ fits (xxh64 seed) (framed seed front back front_is.0 back_is.0 place)
 
 -- the word of the first difference is the one in which they differ

@@ -20,3 +20,4 @@ unfoldable pub use Rattle.hash_xxh3.specs.Short.{eight_flip, eight_number, few_f
 pub use Rattle.hash_xxh3.specs.Words.{word_at, times, turned, half_at}
 unfoldable pub use Rattle.hash_xxh3.specs.Words.{length_in, avalanche, avalanche_64, folded_product, length_mix, three_turns}
 unfoldable pub use Rattle.hash_xxh3.specs.Xxh3.{xxh3_64_of}
+pub use Rattle.std.proofs.lemmas.Grind.{common_steps}

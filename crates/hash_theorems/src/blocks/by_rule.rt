@@ -19,7 +19,8 @@ pub fn apart_by_rule<R: BlockUndo<N>, const N: usize>(x: &[u8], y: &[u8]) -> boo
 }
 
 /// A changed block shows, a law with no code: two texts of one length that differ, but only within one block, or after the
-/// whole blocks, have different hashes under every seed.
+/// whole blocks, have different hashes under every seed. `apart_by_rule` says it of slices; the law also of what is longer than
+/// memory, such as a file.
 pub fn one_changed_block_shows_by_rule<R: BlockUndo<N>, const N: usize>()
     ensures { (from x y : List ℕ) → R.is_seed from → IsText x → IsText y → DifferInOneBlock N x y
         → R.hash from x ≢ R.hash from y }

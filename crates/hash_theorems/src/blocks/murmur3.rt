@@ -19,6 +19,7 @@ pub fn apart_by_word_murmur3_32(x: &[u8], y: &[u8]) -> bool
 
 /// One changed word shows in MurmurHash3_x86_32, a law with no code: two texts of one length that differ, but only within four
 /// bytes from a place that 4 divides, or within the up to three bytes after them, have different hashes under every seed.
+/// `apart_by_word_murmur3_32` says it of slices; the law also of what is longer than memory, such as a file.
 pub fn one_changed_word_shows_in_murmur3_32()
     ensures { (seed : ℕ) (x y : List ℕ) → seed < 2 ^ 32 → IsText x → IsText y → DifferInOneBlock 4 x y
         → murmur3_32 seed x ≢ murmur3_32 seed y }
@@ -56,7 +57,7 @@ pub fn apart_by_block_murmur3_128(x: &[u8], y: &[u8]) -> bool
 
 /// One changed block shows in MurmurHash3_x64_128, a law with no code: two texts of one length that differ, but only within
 /// sixteen bytes from a place that 16 divides, or within the up to fifteen bytes after them, have different hashes of 128 bits under
-/// every seed.
+/// every seed. `apart_by_block_murmur3_128` says it of slices; the law also of what is longer than memory, such as a file.
 pub fn one_changed_block_shows_in_murmur3_128()
     ensures { (seed : ℕ) (x y : List ℕ) → seed < 2 ^ 64 → IsText x → IsText y → DifferInOneBlock 16 x y
         → murmur3_128 seed x ≢ murmur3_128 seed y }

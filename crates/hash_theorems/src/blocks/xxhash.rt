@@ -160,7 +160,7 @@ pub fn xxh64_is_even()
 
 /// One changed word shows in XXH64, a law with no code: two texts of one length that differ, but only within one word of eight
 /// bytes after their whole blocks of 32, from a place that 8 divides, have different hashes under every seed. Below 32 bytes that
-/// is any word of eight bytes.
+/// is any word of eight bytes. `apart_by_word_xxh64` says it of slices; the law also of what is longer than memory, such as a file.
 pub fn one_changed_word_shows_in_xxh64()
     ensures { (seed : ℕ) (x y : List ℕ) → IsText x → IsText y → DifferInOneLastWord x y
         → xxh64 seed x ≢ xxh64 seed y }
@@ -190,7 +190,8 @@ pub fn apart_by_word_xxh64(x: &[u8], y: &[u8]) -> bool
 }
 
 /// One changed word shows in XXH32, a law with no code: two texts of one length that differ, but only within one word of four
-/// bytes from a place that 4 divides, wherever it lies, have different hashes under every seed.
+/// bytes from a place that 4 divides, wherever it lies, have different hashes under every seed. `apart_by_word_xxh32` says it of
+/// slices; the law also of what is longer than memory, such as a file.
 pub fn one_changed_word_shows_in_xxh32()
     ensures { (seed : ℕ) (x y : List ℕ) → seed < 2 ^ 32 → IsText x → IsText y → DifferInOneWord x y
         → xxh32 seed x ≢ xxh32 seed y }

@@ -1,4 +1,4 @@
-use Rattle.hash_theorems.proofs.BlockCommon.{arith, IsText-from_slice, found, found_alone}
+use Rattle.hash_theorems.proofs.BlockCommon.{IsText-from_slice, found, found_alone, rules}
 use Rattle.hash_theorems.proofs.Words64.{framed}
 use Rattle.hash_theorems.proofs.blocks.xxhash.word_for_xxh64.Goals as goal
 
@@ -6,7 +6,4 @@ pub returns : goal.returns
 returns c =
     let middle = framed c.args.seed c.args.front.now c.args.back.now (IsText-from_slice c.args.front.now c.type_inv.front)
     (IsText-from_slice c.args.back.now c.type_inv.back) c.requires in
-    record {
-      leads = found middle c.args.hash (omega arith) c.eight_between.result cc;
-      alone = λ word text whole. found_alone middle c.args.hash c.eight_between.result (cc) word (text, whole);
-    }
+    search (rules, found, found_alone)

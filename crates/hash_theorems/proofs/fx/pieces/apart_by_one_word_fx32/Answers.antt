@@ -1,9 +1,6 @@
-use Rattle.hash_theorems.proofs.FxCommon.{OnTrue_at, OnTrue_from}
+use Rattle.hash_theorems.proofs.FxCommon.{common_steps, nat_tests, arith}
 use Rattle.hash_fx.proofs.PiecesLemmas.{fx32_words-differ}
 use Rattle.hash_theorems.proofs.fx.pieces.apart_by_one_word_fx32.Goals as goal
 
 pub returns-clause-differ : goal.returns-clause-differ
-returns-clause-differ c =
-    let test = c.apart_by_one_word.ensures in
-    OnTrue_from c.apart_by_one_word.result _ (λ yes. fx32_words-differ c.args.x.now c.args.y.now (OnTrue_at yes test.first)
-    (OnTrue_at yes test.second) (test.exactly.0 yes))
+returns-clause-differ c = grind (arith, nat_tests, common_steps, fx32_words-differ)

@@ -1,27 +1,15 @@
-use Rattle.hash_theorems.proofs.MoreCommon.{refl, ◌<◌, length, get_or, arith, Decides-eqb, IsText-from_slice}
+use Rattle.hash_theorems.proofs.MoreCommon.{◌<◌, length, arith, Decides-eqb, IsText-from_slice, common_steps, nat_tests, rules}
 use Rattle.hash_theorems.proofs.BurstLemmas.{short_text, lowest_of, fifth_allows, fifth_refuses}
 use Rattle.hash_theorems.proofs.more.bursts.is_burst_from_the_first.Goals as goal
 
 pub returns-then-x-le4 : goal.returns-then-x-le4
-returns-then-x-le4 c = (
-  (λ yes. short_text c.args.x.now c.args.y.now (IsText-from_slice c.args.x.now c.type_inv.x) (IsText-from_slice c.args.y.now c.type_inv.y)
-      c.requires.same_length c.requires.some c.if-x-le4.true c.requires.differ),
-  (λ differ. refl),
-)
+returns-then-x-le4 c = search (rules, short_text, IsText-from_slice)
 
 pub overflow_shr-x : goal.overflow_shr-x
-overflow_shr-x c =
-    let in_x : 0 < length c.args.x.now = omega arith in
-    let in_y : 0 < length c.args.y.now = omega arith in
-    (lowest_of (get_or c.args.x.now 0 0) (get_or c.args.y.now 0 0) (IsText-from_slice c.args.x.now c.type_inv.x 0 0 in_x)
-    (IsText-from_slice c.args.y.now c.type_inv.y 0 0 in_y) c.requires.differ).0
+overflow_shr-x c = grind (arith, nat_tests, common_steps, lowest_of, IsText-from_slice)
 
 pub returns-then-x-y-eq0 : goal.returns-then-x-y-eq0
-returns-then-x-y-eq0 c =
-    let long : 4 < length c.args.x.now = omega arith in
-    fifth_allows c.args.x.now c.args.y.now c.eq.result (IsText-from_slice c.args.x.now c.type_inv.x)
-    (IsText-from_slice c.args.y.now c.type_inv.y)
-    c.requires.same_length long c.requires.differ c.if-x-y-eq0.true c.eq.ensures
+returns-then-x-y-eq0 c = search (rules, fifth_allows, IsText-from_slice)
 
 pub returns-else-x-y-eq0 : goal.returns-else-x-y-eq0
 returns-else-x-y-eq0 c =
