@@ -20,7 +20,7 @@ PROGRAMS = {"hashof", "dedup", "hashsum", "cuts", "spread"}
 SOURCES = sorted({crate for crates in RUST_CRATES.values() for crate in crates})
 # The files of tests that go: what the others need is Rattle's std alone, as its maps.
 TESTS = {
-    "buckets", "calls", "chunks", "filter_files", "filters", "inputs", "laws", "leads", "lines", "original", "readers", "ring", "rounds",
+    "buckets", "calls", "chunks", "filter_files", "filters", "laws", "lines", "original", "readers", "ring", "rounds",
     "sample", "shelf", "spread", "sums", "two_texts", "vectors", "xxh3",
 }
 # Crates of which these files alone are taken: others take memory, read, have laws alone or are for tests.
@@ -41,7 +41,7 @@ PARTS = {
     },
     "hashers-tests": {
         "streams": {"rehearsal"},
-        "hash_vectors": {"byte_sum", "times31", "tests", *("tests/" + it for it in TESTS)},
+        "hash_vectors": {"times31", "tests", *("tests/" + it for it in TESTS)},
     },
 }
 # Crates that take memory, read or write: what they name of Rattle's std is in the shim, which is written by hand over Rust's.

@@ -1,3 +1,2 @@
-pub mod ByteSum
 pub mod Times31
 pub mod Times31Laws

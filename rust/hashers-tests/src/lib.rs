@@ -51,7 +51,6 @@ mod shim {
 }
 
 mod hash_vectors {
-    mod byte_sum;
     mod tests;
     mod times31;
 }

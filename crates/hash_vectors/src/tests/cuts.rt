@@ -1,141 +1,78 @@
 //! Texts cut into chunks. The lengths of the chunks were computed by another program, from the definitions.
-ghost use Rattle.std.specs.Prelude.{◌≡◌, ◌++◌, map};
+ghost use Rattle.std.specs.Prelude.{⊤};
 
+use crate::tests::shelf::fill;
 use crate::tests::{all_hold, same};
 use hash_cuts::{Cuts, Sink, Unfinished, cut_reader};
-use std::alloc::{AllocError, Global};
-use std::process::Abort;
+use std::alloc::AllocError;
 use streams::rehearsal::Script;
 
-/// The lengths of the chunks of the first 5,000 bytes that `made` makes, of 64 to 1,024 bytes, 256 on average, under the seeds 1 and 2.
+/// The lengths of the chunks of 5,000 bytes without an order, of 64 to 1,024 bytes, 256 on average, under the seeds 1 and 2.
 const LENGTHS: [u64; 18] = [
     122, 536, 73, 472, 579, 139, 108, 327, 205, 129, 142, 735, 231, 146, 430, 73, 412, 141,
 ];
 
-/// Bytes without an order: the high ones of a generator by D. E. Knuth, which goes on by a product and a sum.
-fn made() -> [u8; 5000] {
-    let mut state: u64 = 1;
-    std::array::from_fn(|_| {
-        state = state
-            .wrapping_mul(6364136223846793005)
-            .wrapping_add(1442695040888963407);
-        (state >> 56) as u8
-    })
-}
-
-/// A sink that keeps its chunks.
+/// A sink that keeps how many chunks it took, and whether their lengths are the first of those.
 #[derive(Drop)]
-struct Kept {
-    alloc: Global,
-    chunks: Vec<Vec<u8>>,
+struct Counted {
+    chunks: usize,
+    right: bool,
 }
 
-impl Sink for Kept {
+impl Sink for Counted {
     type Error = AllocError;
 
-    ghost taken = { λ start sink chunks refused.
-        map (λ chunk. chunk.items) sink.chunks.items ≡ map (λ chunk. chunk.items) start.chunks.items ++ chunks };
+    ghost taken = { λ start sink chunks refused. ⊤ };
 
     fn take(&mut self, chunk: &[u8]) -> Result<(), AllocError> {
-        let copy = Vec::from_slice(self.alloc, chunk)?;
-        self.chunks.push(copy)?;
+        let wanted = LENGTHS.get(self.chunks).copied();
+        self.right = self.right && wanted == Some(chunk.len() as u64);
+        self.chunks = self.chunks.saturating_add(1);
         Ok(())
     }
 }
 
-/// The lengths of the chunks of a text.
-fn lengths(rt: &impl Abort, alloc: Global, cuts: &Cuts, text: &[u8]) -> Vec<u64> {
-    let lengths = cuts
-        .chunks(text)
-        .map(|chunk| chunk.len() as u64)
-        .collect::<Vec<u64>>(alloc);
-    lengths.expect(rt, "memory")
-}
-
-/// Chunks of these sizes.
-fn cuts_of(rt: &impl Abort, least: usize, average: usize, most: usize) -> Cuts {
-    Cuts::new(least, average, most, 1, 2).expect(rt, "sizes that may be")
-}
-
 #[test]
 fn chunks_of_a_text(rt: HostRuntime) {
-    let text = made();
-    same(
-        &rt,
-        &lengths(&rt, rt.alloc(), &cuts_of(&rt, 64, 256, 1024), &text),
-        &LENGTHS,
-    );
-    same(
-        &rt,
-        &lengths(&rt, rt.alloc(), &cuts_of(&rt, 64, 256, 1024), b""),
-        &[],
-    );
-    same(
-        &rt,
-        &lengths(&rt, rt.alloc(), &cuts_of(&rt, 64, 256, 1024), &[0; 64]),
-        &[64],
-    );
-    same(
-        &rt,
-        &lengths(&rt, rt.alloc(), &cuts_of(&rt, 64, 256, 1024), &[0; 3000]),
-        &[1024, 1024, 952],
-    );
-    same(
-        &rt,
-        &[lengths(&rt, rt.alloc(), &cuts_of(&rt, 64, 64, 64), &text).len() as u64],
-        &[79],
-    );
+    let mut text = [0; 5000];
+    fill(&mut text);
+    let cuts = Cuts::new(64, 256, 1024, 1, 2).expect(&rt, "sizes that may be");
+    let lengths = cuts
+        .chunks(&text)
+        .map(|chunk| chunk.len() as u64)
+        .collect::<Vec<u64>>(rt.alloc());
+    same(&rt, &lengths.expect(&rt, "memory"), &LENGTHS);
 }
 
-/// The chunks are the same ones however the reader gives its bytes, and under a limit the first ones of them.
+/// The chunks are the same ones however the reader gives its bytes, and under a limit the first ones of them. A read that fails is reported
+/// with the bytes before it; the chunks that end within them were given.
 #[test]
 fn chunks_of_a_reader(rt: HostRuntime) {
-    let text = made();
-    let alloc = rt.alloc();
-    for (limit, count) in [(u64::MAX, 18), (5001, 18), (5000, 17), (731, 2), (122, 0)] {
-        let mut sink = Kept {
-            alloc,
-            chunks: Vec::new(alloc),
+    let mut text = [0; 5000];
+    fill(&mut text);
+    let cuts = Cuts::new(64, 256, 1024, 1, 2).expect(&rt, "sizes that may be");
+    for (limit, until_fault, bytes, chunks) in [
+        (u64::MAX, 9000, 5000, 18),
+        (5000, 9000, 5000, 17),
+        (122, 9000, 122, 0),
+        (u64::MAX, 2000, 2000, 6),
+    ] {
+        let mut sink = Counted {
+            chunks: 0,
+            right: true,
         };
-        let mut r = Script::new(&text, 7);
-        let taken = cut_reader(
-            alloc,
-            &cuts_of(&rt, 64, 256, 1024),
-            &mut r,
-            limit,
-            &mut sink,
-        );
-        let bytes = taken.ok().expect(&rt, "no fault").bytes;
-        let chunks = sink.chunks.len();
-        same(&rt, &[bytes, chunks as u64], &[limit.min(5000), count]);
-        for (chunk, length) in sink.chunks.iter().zip(&LENGTHS) {
-            same(&rt, &[chunk.len() as u64], &[*length]);
-        }
-    }
-}
-
-/// A read that fails is reported with the bytes before it; the chunks that end within them were given.
-#[test]
-fn a_reader_that_fails(rt: HostRuntime) {
-    let text = made();
-    let alloc = rt.alloc();
-    let mut sink = Kept {
-        alloc,
-        chunks: Vec::new(alloc),
-    };
-    let mut r = Script::failing(&text, 100, 2000);
-    match cut_reader(
-        alloc,
-        &cuts_of(&rt, 64, 256, 1024),
-        &mut r,
-        u64::MAX,
-        &mut sink,
-    ) {
-        Err(Unfinished::Unread(fault)) => same(
+        let mut r = Script::failing(&text, 7, until_fault);
+        let (read, failed) = match cut_reader(rt.alloc(), &cuts, &mut r, limit, &mut sink) {
+            Ok(taken) => (taken.bytes, false),
+            Err(Unfinished::Unread(fault)) => (fault.bytes, true),
+            Err(_) => (0, true),
+        };
+        all_hold(
             &rt,
-            &[fault.bytes, sink.chunks.len() as u64],
-            &[2000, 6],
-        ),
-        _ => all_hold(&rt, &[false]),
+            &[
+                read == bytes && sink.chunks == chunks,
+                sink.right && failed == (until_fault == 2000),
+            ],
+        );
     }
 }

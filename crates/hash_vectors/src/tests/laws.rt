@@ -1,11 +1,13 @@
-//! What generic code gives at a type that it has never seen.
-use crate::byte_sum::ByteSum;
+//! What generic code gives at a type that it has never seen, and hashes that are undone.
 use crate::tests::{all_hold, same};
 use crate::times31::Times31;
-use hashers::laws::{
-    ByteStep, HasherWrite, Piecewise, Streamed, Undo, answer_of_pieces, apart_by_one, run_pair,
-    run_streamed, run_writes, unrun_writes,
-};
+use hashers::fnv::Fnv1aRule64;
+use hashers::fx_hash::{FxHasher32, FxHasher64};
+use hashers::jenkins::OaatRule;
+use hashers::laws::{Piecewise, Undo, answer_of_pieces, run_pair, run_streamed};
+use hashers::oz::{Djb2Rule, SdbmRule};
+use hashers::pigeon::BricolageRule;
+use hashers::rules::{ByteHasher, Plain, PlainUndo, UndoRule};
 
 #[test]
 fn a_third_partys_hasher(rt: HostRuntime) {
@@ -28,38 +30,44 @@ fn a_third_partys_hasher(rt: HostRuntime) {
     all_hold(&rt, &[Times31::unfinish(4294967296).is_none(), apart]);
 }
 
-// The traits by hand, with no rule: what generic code gives at such a type.
+/// The hash before the text, where there is a hasher with this one.
+fn before<H: Undo>(hash: u64, text: &[u8]) -> Option<u64> {
+    let mut hasher = H::unfinish(hash)?;
+    hasher.unwrite(text);
+    Some(hasher.answer())
+}
+
+/// The same of the hasher of a rule, and of a rule that keeps one word. What a hasher of a rule promises is shown once here, and not at
+/// each call.
+fn before_by_rule<R: UndoRule>(hash: u64, text: &[u8]) -> Option<u64> {
+    before::<ByteHasher<R>>(hash, text)
+}
+
+fn before_by_plain<R: PlainUndo>(hash: u64, text: &[u8]) -> Option<u64> {
+    before_by_rule::<Plain<R>>(hash, text)
+}
+
 #[test]
-fn a_hasher_with_no_rule(rt: HostRuntime) {
-    let mut a = ByteSum::fresh();
-    run_writes(
-        &mut a,
-        &[HasherWrite::Bytes(b"abc"), HasherWrite::U16(0x0201)],
-    );
-    let summed = a.answer();
-    unrun_writes(
-        &mut a,
-        &[HasherWrite::Bytes(b"bc"), HasherWrite::U16(0x0201)],
-    );
-    let back = a.answer();
-    a.step(200);
-    a.unstep(200);
-    same(
-        &rt,
-        &[
-            summed,
-            back,
-            a.answer(),
-            answer_of_pieces::<ByteSum>(&[b"ab", b"c"]),
-        ],
-        &[41, 97, 97, 38],
-    );
-    all_hold(
-        &rt,
-        &[
-            apart_by_one::<ByteSum>(b"abc", b"abd"),
-            ByteSum::unfinish(256).is_none(),
-            ByteSum::unfinish(255).is_some(),
-        ],
-    );
+fn texts_are_undone(rt: HostRuntime) {
+    let got = [
+        before_by_plain::<Fnv1aRule64>(12638187200555641996, b"a"),
+        before_by_plain::<OaatRule>(29161854018, b"a"),
+        before_by_plain::<BricolageRule>(16461606921607156355, b"b"),
+        before_by_rule::<SdbmRule>(6363201, b"b"),
+        before::<FxHasher64>(16160435425421689461, b"a"),
+        before_by_plain::<Djb2Rule>(177604, b"a"),
+        before_by_plain::<Djb2Rule>(4294967296, b""),
+        before::<FxHasher32>(4294967296, b""),
+    ];
+    let wanted = [
+        Some(14695981039346656037),
+        Some(0),
+        Some(17926483712435944715),
+        Some(97),
+        Some(0),
+        Some(5381),
+        None,
+        None,
+    ];
+    all_hold(&rt, &[got == wanted]);
 }

@@ -1,10 +1,8 @@
 //! The answers of the original, replayed.
 use super::sample::SAMPLE;
-use crate::tests::{same, same_at};
+use crate::tests::{all_hold_at, same_at};
 use hashers::laws::HasherWrite;
 use hashers::promises::*;
-use std::alloc::{AllocError, Global};
-use std::test::Fail;
 
 /// Byte i of a text: all zeros, all 255, or a mixture.
 fn byte(filling: u8, i: usize) -> u8 {
@@ -13,19 +11,6 @@ fn byte(filling: u8, i: usize) -> u8 {
         1 => 255,
         _ => ((i % 256 * 131 + i / 256 % 256 * 17 + 89) % 256) as u8,
     }
-}
-
-/// A text in writes of one length, or in one write.
-fn writes_of(alloc: Global, text: &[u8], piece: usize) -> Result<Vec<HasherWrite<'_>>, AllocError> {
-    let mut writes = Vec::new(alloc);
-    if piece == 0 {
-        writes.push(HasherWrite::Bytes(text))?;
-    } else {
-        for part in text.chunks(piece) {
-            writes.push(HasherWrite::Bytes(part))?;
-        }
-    }
-    Ok(writes)
 }
 
 /// What fourteen hashers answer, in the order of the sample.
@@ -50,18 +35,21 @@ fn answers(writes: &[HasherWrite]) -> [u64; 14] {
 
 /// From 192 bytes on both versions of SpookyHash are one.
 #[test]
-fn answers_as_the_original(rt: HostRuntime) -> Result<(), Fail> {
+fn answers_as_the_original(rt: HostRuntime) {
     let mut text = [0u8; 4097];
     for (row, (length, filling, piece, wanted)) in SAMPLE.iter().enumerate() {
-        for (i, b) in text.iter_mut().enumerate() {
-            *b = byte(*filling, i);
+        for i in 0..4097usize {
+            text[i] = byte(*filling, i);
         }
-        let length = (*length).min(text.len());
-        let writes = writes_of(rt.alloc(), &text[..length], *piece)?;
+        let length = (*length).min(4097);
+        let mut writes = Vec::new(rt.alloc());
+        let most = if *piece == 0 { 4097 } else { *piece };
+        for part in text[..length].chunks(most) {
+            let is_pushed = writes.push(HasherWrite::Bytes(part)).is_ok();
+            all_hold_at(&rt, row, &[is_pushed]);
+        }
         same_at(&rt, row, &answers(&writes), wanted);
-        if length >= 192 {
-            same(&rt, &[spooky_of_writes(0, 0, &writes).0], &wanted[8..9]);
-        }
+        let (hash, _) = spooky_of_writes(0, 0, &writes);
+        all_hold_at(&rt, row, &[length < 192 || hash == wanted[8]]);
     }
-    Ok(())
 }

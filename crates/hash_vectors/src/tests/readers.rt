@@ -1,6 +1,6 @@
 //! `hash_reader` over readers that misbehave.
-use crate::tests::{none_holds, same_at};
-use hashers::engine::{Fault, Taken, hash_reader};
+use crate::tests::{all_hold_at, same_at};
+use hashers::engine::hash_reader;
 use hashers::fnv::FNV1aHasher64;
 use hashers::laws::Piecewise;
 use hashers::oz::LoseLoseHasher;
@@ -8,25 +8,6 @@ use std::io;
 use std::io::{ErrorKind, Read};
 use std::process::Abort;
 use streams::rehearsal::Script;
-
-/// What came of a call: the bytes and whether the end was seen, or the bytes and the kind of the error.
-#[derive(Clone, Copy, PartialEq, Eq, Debug)]
-pub(super) enum End {
-    Taken(u64, bool),
-    Fault(u64, ErrorKind),
-}
-
-pub(super) fn end_of(outcome: Result<Taken, Fault>) -> End {
-    match outcome {
-        Ok(taken) => End::Taken(taken.bytes, taken.ended),
-        Err(fault) => End::Fault(fault.bytes, fault.error.kind()),
-    }
-}
-
-/// That a call ended as wanted, in one turn of a loop.
-pub(super) fn same_end(rt: &impl Abort, turn: usize, got: End, want: End) {
-    assert_eq!(rt; got, want, "at {turn}");
-}
 
 /// The hashes of nothing, `a`, `ab`, `abc` and `abcd`.
 const BEGINNINGS: [u64; 5] = [
@@ -37,6 +18,9 @@ const BEGINNINGS: [u64; 5] = [
     18165163011005162717,
 ];
 
+/// How a call ends: the bytes, whether the end was seen, and the kind of the error.
+type End = (u64, bool, Option<ErrorKind>);
+
 /// Reads on through an array of 2 under a limit, and compares how the call ends, the hash so far and how many reads there were.
 fn reads_on(
     rt: &impl Abort,
@@ -45,12 +29,23 @@ fn reads_on(
     limit: u64,
     want: (End, usize, u64),
 ) {
-    let outcome = hash_reader::<FNV1aHasher64, Script, 2>(h, r, limit);
-    let (end, hashed, reads) = want;
-    same_end(rt, hashed, end_of(outcome), end);
+    let end = match hash_reader::<FNV1aHasher64, Script, 2>(h, r, limit) {
+        Ok(taken) => (taken.bytes, taken.ended, None),
+        Err(fault) => (fault.bytes, false, Some(fault.error.kind())),
+    };
+    let (wanted, hashed, reads) = want;
     let hash = BEGINNINGS.get(hashed).copied().unwrap_or(0);
-    same_at(rt, hashed, &[h.answer(), r.reads], &[hash, reads]);
-    none_holds(rt, &[r.asked_for_nothing]);
+    same_at(
+        rt,
+        hashed,
+        &[end.0, h.answer(), r.reads],
+        &[wanted.0, hash, reads],
+    );
+    all_hold_at(
+        rt,
+        hashed,
+        &[end.1 == wanted.1, end.2 == wanted.2, !r.asked_for_nothing],
+    );
 }
 
 /// `abcd` by a byte a read, failing once after k bytes and going on.
@@ -59,10 +54,10 @@ fn faults_at_each_byte(rt: HostRuntime) {
     for k in 0..5usize {
         let mut h = FNV1aHasher64::fresh();
         let mut r = Script::failing(b"abcd", 1, k);
-        let (fault, read) = (End::Fault(k as u64, ErrorKind::BrokenPipe), k as u64 + 1);
-        reads_on(&rt, &mut h, &mut r, 9, (fault, k, read));
-        let end = End::Taken(4 - k as u64, true);
-        reads_on(&rt, &mut h, &mut r, 9, (end, 4, 6));
+        let bytes = k as u64;
+        let fault = (bytes, false, Some(ErrorKind::BrokenPipe));
+        reads_on(&rt, &mut h, &mut r, 9, (fault, k, bytes + 1));
+        reads_on(&rt, &mut h, &mut r, 9, ((4 - bytes, true, None), 4, 6));
     }
 }
 
@@ -72,16 +67,15 @@ fn interrupted_and_limited(rt: HostRuntime) {
     let mut h = FNV1aHasher64::fresh();
     let mut r = Script::failing(b"ab", 2, 0);
     r.kind = ErrorKind::Interrupted;
-    reads_on(&rt, &mut h, &mut r, 0, (End::Taken(0, false), 0, 0));
-    reads_on(
-        &rt,
-        &mut h,
-        &mut r,
-        9,
-        (End::Fault(0, ErrorKind::Interrupted), 0, 1),
-    );
-    reads_on(&rt, &mut h, &mut r, 2, (End::Taken(2, false), 2, 2));
-    reads_on(&rt, &mut h, &mut r, 1, (End::Taken(0, true), 2, 3));
+    let fault = (0, false, Some(ErrorKind::Interrupted));
+    for (limit, end, hashed, reads) in [
+        (0, (0, false, None), 0, 0),
+        (9, fault, 0, 1),
+        (2, (2, false, None), 2, 2),
+        (1, (0, true, None), 2, 3),
+    ] {
+        reads_on(&rt, &mut h, &mut r, limit, (end, hashed, reads));
+    }
 }
 
 /// Gives bytes of 1 and never ends, at most so many a read.
@@ -105,6 +99,7 @@ fn an_endless_reader(rt: HostRuntime) {
     let mut h = LoseLoseHasher::fresh();
     let mut r = Endless { most: 7, reads: 0 };
     let outcome = hash_reader::<LoseLoseHasher, Endless, 4096>(&mut h, &mut r, 1000);
-    same_end(&rt, 7, end_of(outcome), End::Taken(1000, false));
     same_at(&rt, 7, &[h.answer(), r.reads], &[1000, 143]);
+    let is_met = matches!(outcome, Ok(taken) if taken.bytes == 1000 && !taken.ended);
+    all_hold_at(&rt, 7, &[is_met]);
 }

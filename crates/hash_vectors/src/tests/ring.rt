@@ -1,55 +1,10 @@
-//! Rings of a few nodes, by values that a plain program in another language gave, and where memory is refused.
+//! A ring of a few nodes, by values that a plain program in another language gave, and where memory is refused.
 ghost use Rattle.std.specs.Prelude.{◌≤◌, All, IfOk};
 
 use crate::tests::all_hold;
 use hash_ring::{Node, Refused, Ring};
-use hashers::fnv::FNV1aHasher64;
 use hashers::jenkins::spooky_hash::SpookyHasher;
 use std::alloc::{AllocError, Global};
-use std::process::Abort;
-
-/// That the names are as wanted.
-fn same_names(rt: &impl Abort, got: &[&[u8]], want: &[&[u8]]) {
-    assert_eq!(rt; got, want);
-}
-
-/// A ring of oak with two points, elm with one and ash with three.
-fn trees(rt: &impl Abort, alloc: Global) -> Ring<FNV1aHasher64> {
-    let mut ring = Ring::new(alloc);
-    for (name, weight) in [("oak", 2), ("elm", 1), ("ash", 3)] {
-        let name = Vec::from_slice(alloc, name.as_bytes()).expect(rt, "memory for a name");
-        all_hold(rt, &[weight > 0 && ring.add(name, weight).is_ok()]);
-    }
-    ring
-}
-
-/// The names of the owners of a key.
-fn check_owners(
-    rt: &impl Abort,
-    alloc: Global,
-    ring: &Ring<FNV1aHasher64>,
-    key: &[u8],
-    want: &[&[u8]],
-) {
-    let owners = ring
-        .owners(alloc, key, want.len())
-        .expect(rt, "memory for the names");
-    same_names(rt, &owners, want);
-    all_hold(rt, &[ring.owner(key) == want.first().copied()]);
-}
-
-/// Keys of each node, and one past the last point. The values are of a plain program.
-#[test]
-fn owners_of_three_nodes(rt: HostRuntime) {
-    let alloc = rt.alloc();
-    let ring = trees(&rt, alloc);
-    check_owners(&rt, alloc, &ring, b"a", &[b"oak", b"ash", b"elm"]);
-    check_owners(&rt, alloc, &ring, b"one", &[b"elm", b"ash", b"oak"]);
-    check_owners(&rt, alloc, &ring, b"sea", &[b"ash", b"oak", b"elm"]);
-    check_owners(&rt, alloc, &ring, b"four", &[b"elm", b"ash"]);
-    let first = ring.nodes().first().map(|node| node.weight);
-    all_hold(&rt, &[ring.len() == 3, first == Some(3)]);
-}
 
 /// A node.
 fn node(alloc: Global, name: &[u8], weight: u64) -> Result<Node, AllocError>
@@ -60,64 +15,44 @@ fn node(alloc: Global, name: &[u8], weight: u64) -> Result<Node, AllocError>
     Ok(Node { name, weight })
 }
 
-/// The nodes of `trees`, and one more.
-fn four_nodes(alloc: Global, last: &[u8]) -> Result<Vec<Node>, AllocError>
+/// Oak with two points, elm with one and ash with three.
+fn trees(alloc: Global) -> Result<Vec<Node>, AllocError>
     ensures { IfOk result (λ nodes. All (λ node. 1 ≤ node.weight) nodes.items) }
 {
     let oak = node(alloc, b"oak", 2)?;
     let elm = node(alloc, b"elm", 1)?;
     let ash = node(alloc, b"ash", 3)?;
-    let last = node(alloc, last, 1)?;
-    Ok(vec![in alloc; oak, elm, ash, last]?)
+    Ok(vec![in alloc; oak, elm, ash]?)
 }
 
-/// How much of the ring each node owns, and who owns its places, by a plain program.
-#[test]
-fn shares_and_owners_of_places(rt: HostRuntime) {
-    let alloc = rt.alloc();
-    let ring = trees(&rt, alloc);
-    let shares = ring.shares(alloc).expect(&rt, "memory for the shares");
-    assert_eq!(rt;
-        shares.as_slice(),
-        [
-            3337199519089381728,
-            11756901173466240504,
-            3352643381153929384
-        ]
-        .as_slice()
-    );
-    let places: [u64; 6] = [
-        0,
-        8283681994398982667,
-        8283681994398982668,
-        11064887797097739678,
-        11064887797097739679,
-        u64::MAX,
-    ];
-    let wanted: [&[u8]; 6] = [b"elm", b"elm", b"ash", b"ash", b"oak", b"elm"];
-    for (place, want) in places.iter().zip(wanted) {
-        all_hold(&rt, &[ring.owner_at(*place) == Some(want)]);
-    }
-}
-
-/// Where memory is refused all nodes come back, or no shares; the next call makes them.
+/// How much of the ring ash, elm and oak own, and who owns its places. Where memory is refused all nodes come back, or no shares.
 #[test]
 fn refused_nodes_come_back(rt: HostRuntime) {
     let alloc = rt.alloc();
-    let Ok(nodes) = four_nodes(alloc, b"fir") else {
+    let Ok(nodes) = trees(alloc) else {
         return;
     };
     let ring = match Ring::<SpookyHasher>::from_nodes(alloc, nodes) {
         Ok(ring) => ring,
-        Err(Refused::NoRoom(nodes)) => {
-            all_hold(&rt, &[nodes.len() == 4]);
-            return;
-        }
-        Err(Refused::IsThere(_)) => panic!(rt; "four names are three"),
+        Err(Refused::NoRoom(nodes)) => return all_hold(&rt, &[nodes.len() == 3]),
+        Err(Refused::IsThere(_)) => panic!(rt; "three names are two"),
     };
-    match ring.shares(alloc) {
-        Ok(shares) => all_hold(&rt, &[shares.len() == 4]),
-        Err(AllocError) => all_hold(&rt, &[ring.len() == 4]),
+    for (place, name) in [
+        (0, b"elm"),
+        (2716178055405275377, b"elm"),
+        (2716178055405275378, b"ash"),
+        (14890085688658093215, b"oak"),
+        (u64::MAX, b"elm"),
+    ] {
+        all_hold(&rt, &[ring.owner_at(place) == Some(name.as_slice())]);
+    }
+    if let Ok(shares) = ring.shares(alloc) {
+        let wanted = [
+            12173907633252817837,
+            3817952004556595233,
+            2454884435900138546,
+        ];
+        all_hold(&rt, &[shares.as_slice() == wanted.as_slice()]);
     }
 }
 
@@ -126,30 +61,22 @@ fn refused_nodes_come_back(rt: HostRuntime) {
 fn refused_names_come_back(rt: HostRuntime) {
     let alloc = rt.alloc();
     let mut ring = Ring::<SpookyHasher>::new(alloc);
-    for (turn, text) in ["oak", "elm", "oak", "ash"].iter().enumerate() {
+    for (turn, text) in [b"oak", b"elm", b"oak", b"ash"].iter().enumerate() {
         let before = ring.len();
-        let Ok(name) = Vec::from_slice(alloc, text.as_bytes()) else {
+        let Ok(name) = Vec::from_slice(alloc, text.as_slice()) else {
             continue;
         };
-        match ring.add(name, 2) {
-            Ok(()) => all_hold(&rt, &[ring.len().checked_sub(1) == Some(before)]),
-            Err(Refused::IsThere(name)) => {
-                all_hold(
-                    &rt,
-                    &[
-                        name.as_slice() == text.as_bytes(),
-                        turn == 2,
-                        ring.len() == before,
-                    ],
-                );
+        let (back, is_there) = match ring.add(name, 2) {
+            Ok(()) => {
+                let more = ring.len().checked_sub(before);
+                all_hold(&rt, &[more == Some(1), ring.owner(b"a").is_some()]);
+                continue;
             }
-            Err(Refused::NoRoom(name)) => {
-                all_hold(
-                    &rt,
-                    &[name.as_slice() == text.as_bytes(), ring.len() == before],
-                );
-            }
-        }
-        all_hold(&rt, &[ring.owner(b"a").is_some() == (ring.len() > 0)]);
+            Err(Refused::IsThere(name)) => (name, true),
+            Err(Refused::NoRoom(name)) => (name, false),
+        };
+        let is_back = back.as_slice() == text.as_slice();
+        let claims = [is_back, ring.len() == before, !is_there || turn == 2];
+        all_hold(&rt, &claims);
     }
 }

@@ -1,5 +1,5 @@
 //! Known values of the words, the sums and the rounds, and each call once.
-use crate::tests::{same, same_at, same32};
+use crate::tests::{all_hold, same, same_at};
 use hash_rounds::*;
 use std::simd::prelude::*;
 
@@ -11,29 +11,23 @@ const COUNTED_ON: [u64; 12] = [13, 14, 15, 16, 17, 18, 19, 20, 21, 22, 23, 24];
 
 #[test]
 fn words_have_known_values(rt: HostRuntime) {
-    same32(
-        &rt,
-        &[
-            rotl32(0x8000_0001, 1),
-            le32(b"abcd"),
-            le32(b"ab"),
-            le_four(b"abcd"),
-        ],
-        &[3, 0x6463_6261, 0x6261, 0x6463_6261],
-    );
-    same(
-        &rt,
-        &[
-            rotl64(0x8000_0000_0000_0001, 4),
-            le64(b"abcdefgh"),
-            swap_halves(0x0123_4567_89ab_cdef),
-            xorshift(64, 6),
-            unxorshift(65, 6),
-        ],
-        &[0x18, 0x6867_6665_6463_6261, 0x89ab_cdef_0123_4567, 65, 64],
-    );
     let words: [u64; 2] = le_words(b"abcdefgh\x01\0\0\0\0\0\0\x80");
-    same(&rt, &words, &[0x6867_6665_6463_6261, 0x8000_0000_0000_0001]);
+    all_hold(
+        &rt,
+        &[
+            rotl32(0x8000_0001, 1) == 3,
+            le32(b"abcd") == 1684234849,
+            le32(b"") == 0,
+            le_four(b"abcd") == 1684234849,
+            rotl64(0x8000_0000_0000_0001, 4) == 0x18,
+            le64(b"abcdefgh") == 0x6867_6665_6463_6261,
+            swap_halves(1) == 4294967296,
+            xorshift(64, 6) == 65,
+            unxorshift(65, 6) == 64,
+            xorshift(1 << 63, 63) == (1 << 63) + 1,
+            words == [0x6867_6665_6463_6261, 0x8000_0000_0000_0001],
+        ],
+    );
 }
 
 /// Single bits, and where the shuffle takes them.
@@ -50,11 +44,11 @@ const BITS: [(u32, u32); 8] = [
 
 #[test]
 fn bits_go_by_the_table(rt: HostRuntime) {
-    for (row, (from, to)) in BITS.iter().enumerate() {
-        let (bit, shuffled) = (1u64.rotate_left(*from), 1u64.rotate_left(*to));
+    for (from, to) in BITS {
+        let (bit, shuffled) = (1u64.rotate_left(from), 1u64.rotate_left(to));
         same_at(
             &rt,
-            row,
+            from as usize,
             &[shuffle64(bit), unshuffle64(shuffled)],
             &[shuffled, bit],
         );
@@ -65,12 +59,19 @@ fn bits_go_by_the_table(rt: HostRuntime) {
 fn lookup3_has_known_words(rt: HostRuntime) {
     let mut s = [0xdead_befb; 3];
     lookup3_mix(&mut s);
-    same32(&rt, &s, &[0x8f43_a99b, 0x203e_9c5d, 0xa1d8_9905]);
+    let mixed = s;
     lookup3_final(&mut s);
-    same32(&rt, &s, &[0x6585_2e52, 0x14c3_a0e3, 0xfb29_3fc1]);
+    let ended = s;
     lookup3_unfinal(&mut s);
     lookup3_unmix(&mut s);
-    same32(&rt, &s, &[0xdead_befb; 3]);
+    all_hold(
+        &rt,
+        &[
+            mixed == [0x8f43_a99b, 0x203e_9c5d, 0xa1d8_9905],
+            ended == [0x6585_2e52, 0x14c3_a0e3, 0xfb29_3fc1],
+            s == [0xdead_befb; 3],
+        ],
+    );
 }
 
 #[test]
@@ -91,38 +92,43 @@ fn short_rounds_have_known_words(rt: HostRuntime) {
 /// The first and the last word were computed by a program of its own from the rounds' published tables.
 #[test]
 fn long_rounds_have_known_words(rt: HostRuntime) {
-    let mut mixed = COUNTED_ON;
+    let (mut mixed, mut partial, mut ended) = (COUNTED_ON, COUNTED_ON, COUNTED_ON);
     spooky_mix(&COUNTED, &mut mixed);
-    let mut partial = COUNTED_ON;
     spooky_end_partial(&mut partial);
-    let mut ended = COUNTED_ON;
     spooky_end(&COUNTED, &mut ended);
-    same(
-        &rt,
-        &[mixed[0], partial[0], ended[0]],
-        &[
-            0x6cb9_e51b_1959_b06b,
-            0xcdfc_65ec_21ae_ed12,
-            0x5b12_907c_44fa_a16b,
-        ],
-    );
-    same(
-        &rt,
-        &[mixed[11], partial[11], ended[11]],
-        &[
-            0x5452_4b80_6c10_ba1f,
-            0xe6e8_0098_1d2d_15a4,
-            0xb166_aecc_57ff_7841,
-        ],
-    );
+    let words = [
+        mixed[0],
+        mixed[11],
+        partial[0],
+        partial[11],
+        ended[0],
+        ended[11],
+    ];
     spooky_unmix(&COUNTED, &mut mixed);
     spooky_un_end_partial(&mut partial);
-    same(&rt, &mixed, &COUNTED_ON);
-    same(&rt, &partial, &COUNTED_ON);
     let mut blocks = COUNTED_ON;
     spooky_blocks(&[7; 96], &mut blocks, &mut Turns::new());
     spooky_unblocks(&[7; 96], &mut blocks);
-    same(&rt, &blocks, &COUNTED_ON);
+    same(
+        &rt,
+        &words,
+        &[
+            0x6cb9_e51b_1959_b06b,
+            0x5452_4b80_6c10_ba1f,
+            0xcdfc_65ec_21ae_ed12,
+            0xe6e8_0098_1d2d_15a4,
+            0x5b12_907c_44fa_a16b,
+            0xb166_aecc_57ff_7841,
+        ],
+    );
+    all_hold(
+        &rt,
+        &[
+            mixed == COUNTED_ON,
+            partial == COUNTED_ON,
+            blocks == COUNTED_ON,
+        ],
+    );
 }
 
 #[test]
@@ -130,8 +136,8 @@ fn sums_have_known_values(rt: HostRuntime) {
     let mut turns = Turns::new();
     let abcd = sdbm4(0, b"abcd", &mut turns);
     let more = sdbm4(abcd, b"efgh", &mut turns);
-    same32(&rt, &[abcd, more], &[3_518_636_162, 1_869_873_412]);
     let mut full = u64x8::splat(u64::MAX);
     lose8(&mut full, &[0, 1, 2, 3, 4, 5, 6, 255], &mut turns);
     same(&rt, &full.to_array(), &[u64::MAX, 0, 1, 2, 3, 4, 5, 254]);
+    all_hold(&rt, &[abcd == 3_518_636_162, more == 1_869_873_412]);
 }

@@ -1,5 +1,5 @@
 //! How evenly hashes spread keys: the numbers over keys in memory.
-use crate::tests::all_hold;
+use crate::tests::{all_hold, all_hold_at};
 use hash_kinds::table::Kind;
 use hash_names::table::Ported;
 use spread_core::advice::{Advice, advise};
@@ -10,19 +10,11 @@ use spread_core::keys::{Layout, read_keys};
 use spread_core::named::{Hashed, counts_by};
 use spread_core::rows::TableRow;
 use spread_core::sizes::Sizes;
-use std::alloc::{AllocError, Global};
+use std::alloc::Global;
 use std::io::{BufReader, ErrorKind};
 use std::num::NonZeroUsize;
 use streams::rehearsal::Script;
 use text_set::{RandomKeys, Texts};
-
-/// Lines as most files have them.
-const LINES: Layout = Layout::Lines(b'\n');
-
-/// Keys of so many bytes.
-fn fixed(width: usize) -> Layout {
-    Layout::Fixed(NonZeroUsize::new(width).unwrap_or(NonZeroUsize::MAX))
-}
 
 /// The keys of a text.
 fn keys_of(
@@ -39,36 +31,20 @@ fn keys_of(
     Ok(keys)
 }
 
-/// Whether the read that fails at that byte is told.
-fn tells_fault(alloc: Global, layout: Layout, until_fault: usize) -> bool {
-    match keys_of(alloc, b"b\na\nbc", layout, until_fault) {
-        Err(Failure::Unread(error)) => error.kind() == ErrorKind::BrokenPipe,
-        _ => false,
-    }
-}
-
 #[test]
 fn a_read_fails_at_each_byte(rt: HostRuntime) {
     for until_fault in 0..7 {
-        all_hold(
-            &rt,
-            &[
-                tells_fault(rt.alloc(), LINES, until_fault),
-                tells_fault(rt.alloc(), fixed(2), until_fault),
-                tells_fault(rt.alloc(), fixed(3), until_fault),
-            ],
-        );
-    }
-}
-
-/// How many pairs are equal, and the sums of squares.
-fn short(counts: Result<Counts, AllocError>) -> (u128, u128, u128) {
-    match counts {
-        Ok(counts) => match counts.second {
-            Some(second) => (counts.collisions, counts.first.squares, second.squares),
-            None => (0, 0, 0),
-        },
-        _ => (0, 0, 0),
+        for width in 0..4 {
+            let layout = match NonZeroUsize::new(width) {
+                Some(width) => Layout::Fixed(width),
+                None => Layout::Lines(b'\n'),
+            };
+            let is_told = match keys_of(rt.alloc(), b"b\na\nbc", layout, until_fault) {
+                Err(Failure::Unread(error)) => error.kind() == ErrorKind::BrokenPipe,
+                _ => false,
+            };
+            all_hold_at(&rt, until_fault, &[is_told]);
+        }
     }
 }
 
@@ -143,7 +119,7 @@ fn advice_by_rows(rt: HostRuntime) {
     );
 }
 
-/// Where a request for memory is refused, there are no numbers, and else the right ones.
+/// Where a request for memory is refused, there are no numbers, and else the right ones: how many pairs are equal, and the sum of squares.
 #[test]
 fn refused_memory(rt: HostRuntime) {
     let alloc = rt.alloc();
@@ -151,17 +127,15 @@ fn refused_memory(rt: HostRuntime) {
         first: 4,
         second: Some(5),
     };
-    match keys_of(alloc, b"ab\nba\nc", LINES, usize::MAX) {
-        Ok(keys) => {
-            let mut hashed = Hashed {
-                keys,
-                hashes: Vec::new(alloc),
-            };
-            let counts = counts_by(alloc, Kind::Ported(Ported::LoseLose), sizes, &mut hashed);
-            let refused = counts == Err(AllocError);
-            all_hold(&rt, &[refused || short(counts) == (1, 9, 5)]);
-        }
-        Err(Failure::NoMemory) => {}
-        Err(_) => all_hold(&rt, &[false]),
+    let keys = match keys_of(alloc, b"ab\nba\nc", Layout::Lines(b'\n'), usize::MAX) {
+        Ok(keys) => keys,
+        Err(failure) => return all_hold(&rt, &[matches!(failure, Failure::NoMemory)]),
+    };
+    let hashes = Vec::new(alloc);
+    let mut hashed = Hashed { keys, hashes };
+    if let Ok(counts) = counts_by(alloc, Kind::Ported(Ported::LoseLose), sizes, &mut hashed) {
+        let second = matches!(counts.second, Some(second) if second.squares == 5);
+        let first = counts.collisions == 1 && counts.first.squares == 9;
+        all_hold(&rt, &[first, second]);
     }
 }

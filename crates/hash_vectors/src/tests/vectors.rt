@@ -1,31 +1,24 @@
 //! Published vectors, and values that other programs computed, of all hashes: a row for each, and a loop for each kind of call.
-ghost use Rattle.std.specs.Prelude.{⊤};
-
-use crate::tests::{all_hold, all_hold_at};
+use crate::tests::{all_hold_at, same, same_at};
 use hash_blocks::murmur3::{Murmur3Hasher32, Murmur3Hasher128, murmur3_32, murmur3_128};
-use hash_blocks::siphash::{SipHasher13, SipHasher24, SipKey, siphash13, siphash24};
-use hash_blocks::xxhash::{Xxh32Hasher, Xxh64Hasher, xxh32, xxh64};
-use hash_keyed::poly61::{Poly61Hasher, poly61};
-use hash_kinds::table::{by_kind, kind_named};
-use hash_kinds::wide::{WideHash, both};
-use hash_more::crc32::{Castagnoli, CrcRule, Ieee, crc32, crc32c};
-use hash_more::djb2_add::{Djb2AddRule, djb2_add};
+use hash_blocks::siphash::{SipKey, siphash13, siphash24};
+use hash_blocks::xxhash::{xxh32, xxh64};
+use hash_keyed::poly61::poly61;
+use hash_kinds::wide::both;
+use hash_more::crc32::{crc32, crc32c};
+use hash_more::djb2_add::djb2_add;
 use hash_more::elf::elf;
-use hash_more::fnv1::{Fnv1Rule32, Fnv1Rule64, fnv1_32, fnv1_64};
-use hash_more::joaat::{JoaatRule, joaat};
-use hash_names::task::HashTask;
-use hash_xxh3::{Xxh3Hasher, xxh3_64, xxh3_128};
-use hashers::fnv::{Fnv1aRule32, Fnv1aRule64, fnv1a32, fnv1a64};
-use hashers::fx_hash::{FxHasher, FxHasher32, FxHasher64, fxhash, fxhash32, fxhash64};
+use hash_more::fnv1::{fnv1_32, fnv1_64};
+use hash_more::joaat::joaat;
+use hash_xxh3::{xxh3_64, xxh3_128};
+use hashers::fnv::{fnv1a32, fnv1a64};
+use hashers::fx_hash::{fxhash, fxhash32, fxhash64};
 use hashers::jenkins::spooky_hash::{spooky, spooky_v1};
-use hashers::jenkins::{OaatRule, lookup3, oaat};
-use hashers::laws::{Piecewise, Streamed, Undo};
+use hashers::jenkins::{lookup3, oaat};
 use hashers::null::{null, passthrough};
-use hashers::oz::{Djb2Rule, LoseLoseRule, SdbmRule, djb2, loselose, sdbm};
-use hashers::pigeon::{BricolageRule, bricolage};
-use hashers::rules::{ByteHasher, Plain, PlainUndo, UndoRule};
+use hashers::oz::{djb2, loselose, sdbm};
+use hashers::pigeon::bricolage;
 use std::hash::Hasher;
-use std::marker::PhantomData;
 
 /// Of each line of `vectors.txt` the name, the seeds or the key, the text, and the hash.
 type Row = (&'static str, [u64; 2], &'static [u8], u128);
@@ -259,7 +252,7 @@ fn of_another(name: &str, [seed, other]: [u64; 2], text: &[u8]) -> Option<u64> {
 }
 
 /// The hash in one call.
-pub(super) fn in_one(name: &str, seeds: [u64; 2], text: &[u8]) -> Option<u128> {
+fn in_one(name: &str, seeds: [u64; 2], text: &[u8]) -> Option<u128> {
     if name == "murmur3_128" {
         return Some(both(murmur3_128(seeds[0], text)));
     }
@@ -273,65 +266,11 @@ pub(super) fn in_one(name: &str, seeds: [u64; 2], text: &[u8]) -> Option<u128> {
     }
 }
 
-/// A hasher that was fed a text in two writes.
-fn fed<H: Hasher>(mut hasher: H, text: &[u8]) -> H {
-    let (front, back) = text.split_at(text.len() / 3);
-    hasher.write(front);
-    hasher.write(back);
-    hasher
-}
-
-/// To hash a text in two writes, or in one where cuts show.
-struct InTwo<'a> {
-    text: PhantomData<&'a u8>,
-}
-
-impl<'a> HashTask for InTwo<'a> {
-    type Told = &'a [u8];
-
-    type Input = ();
-
-    type Outcome = u64;
-
-    ghost by = { λ hash read told before after outcome. ⊤ };
-
-    fn by_text<H: Streamed>(text: &'a [u8], _input: &mut ()) -> u64 {
-        fed(H::fresh(), text).answer()
-    }
-
-    fn by_pieces<H: Piecewise>(text: &'a [u8], _input: &mut ()) -> u64 {
-        let mut hasher = H::fresh();
-        hasher.feed(text);
-        hasher.answer()
-    }
-
-    ghost by_same = { λ hash read same agree told before after outcome done. done };
-}
-
-/// The hash in two writes, under seeds or a key.
-fn in_two(name: &str, [seed, other]: [u64; 2], text: &[u8]) -> Option<u128> {
-    let key = SipKey {
-        k0: seed,
-        k1: other,
-    };
-    Some(u128::from(match name {
-        // declared: started
-        "xxh32" => fed(Xxh32Hasher::new(half(seed)), text).finish(),
-        "xxh64" => fed(Xxh64Hasher::new(seed), text).finish(),
-        "murmur3_32" => fed(Murmur3Hasher32::new(half(seed)), text).finish(),
-        "siphash13" => fed(SipHasher13::new(key), text).finish(),
-        "siphash24" => fed(SipHasher24::new(key), text).finish(),
-        "xxh3" => fed(Xxh3Hasher::new(seed), text).finish(),
-        // end of declared
-        "murmur3_128" => return Some(fed(Murmur3Hasher128::new(seed), text).wide()),
-        "xxh128" => return Some(fed(Xxh3Hasher::new(seed), text).wide()),
-        "poly61" => fed(Poly61Hasher::new(seed), text).finish(),
-        _ => by_kind::<InTwo>(kind_named(name.as_bytes())?, text, &mut ()),
-    }))
-}
-
 /// The key of the authors' vectors of SipHash.
-const KEY: [u64; 2] = [0x0706050403020100, 0x0f0e0d0c0b0a0908];
+const KEY: SipKey = SipKey {
+    k0: 0x0706050403020100,
+    k1: 0x0f0e0d0c0b0a0908,
+};
 
 // declared: siphash
 /// The hashes of those lines by SipHash-2-4 under KEY, of texts of 0 to 63 bytes, 0, 1, 2 and so on.
@@ -353,14 +292,10 @@ const SIPHASH24: [u64; 64] = [
 
 #[test]
 fn as_the_authors_of_siphash(rt: HostRuntime) {
-    let text: [u8; 64] = std::array::from_fn(|i| (i % 256) as u8);
+    let mut text = [0u8; 64];
     for (n, hash) in SIPHASH24.iter().enumerate() {
-        let (text, wanted) = (&text[..n.min(64)], Some(u128::from(*hash)));
-        let found = [
-            in_one("siphash24", KEY, text),
-            in_two("siphash24", KEY, text),
-        ];
-        all_hold_at(&rt, n, &[found == [wanted; 2]]);
+        text[n] = n as u8;
+        same_at(&rt, n, &[siphash24(KEY, &text[..n])], &[*hash]);
     }
 }
 
@@ -368,71 +303,28 @@ fn as_the_authors_of_siphash(rt: HostRuntime) {
 /// texts of 0 to 255 bytes, 0, 1, 2 and so on, under the seeds from 256 down.
 #[test]
 fn as_smhasher(rt: HostRuntime) {
-    let text: [u8; 256] = std::array::from_fn(|i| (i % 256) as u8);
+    let mut text = [0u8; 256];
     let mut narrow = Murmur3Hasher32::new(0);
     let mut wide = Murmur3Hasher128::new(0);
     for n in 0..256usize {
+        text[n] = n as u8;
         let (text, seed) = (&text[..n], 256 - n as u32);
         narrow.write(&murmur3_32(seed, text).to_le_bytes());
         let (first, second) = murmur3_128(u64::from(seed), text);
         wide.write(&first.to_le_bytes());
         wide.write(&second.to_le_bytes());
     }
-    let codes = [narrow.finish(), wide.finish() & 0xffff_ffff];
-    all_hold(&rt, &[codes == [0xb0f57ee3, 0x6384ba69]]);
+    same(
+        &rt,
+        &[narrow.finish(), wide.finish() & 0xffff_ffff],
+        &[0xb0f57ee3, 0x6384ba69],
+    );
 }
 
-/// Whether a hasher with this hash is a fresh one once the text is taken out.
-fn comes_back<H: Undo>(hash: u64, text: &[u8]) -> bool {
-    match H::unfinish(hash) {
-        Some(mut hasher) => {
-            hasher.unwrite(text);
-            hasher.answer() == H::fresh().answer()
-        }
-        None => false,
-    }
-}
-
-/// The same of the hasher of a rule, and of a rule that keeps one word. What a hasher of a rule promises is shown once here, and not at
-/// each call.
-fn rule_comes_back<R: UndoRule>(hash: u64, text: &[u8]) -> bool {
-    comes_back::<ByteHasher<R>>(hash, text)
-}
-
-fn plain_comes_back<R: PlainUndo>(hash: u64, text: &[u8]) -> bool {
-    rule_comes_back::<Plain<R>>(hash, text)
-}
-
-/// The same by a name, and `true` of a hash that cannot be undone.
-fn taken_out(name: &str, hash: u64, text: &[u8]) -> bool {
-    match name {
-        "fnv1a32" => plain_comes_back::<Fnv1aRule32>(hash, text),
-        "fnv1a64" => plain_comes_back::<Fnv1aRule64>(hash, text),
-        "djb2" => plain_comes_back::<Djb2Rule>(hash, text),
-        "sdbm" => rule_comes_back::<SdbmRule>(hash, text),
-        "loselose" => rule_comes_back::<LoseLoseRule>(hash, text),
-        "bricolage" => plain_comes_back::<BricolageRule>(hash, text),
-        "oaat" => plain_comes_back::<OaatRule>(hash, text),
-        "fxhash" => comes_back::<FxHasher>(hash, text),
-        "fxhash32" => comes_back::<FxHasher32>(hash, text),
-        "fxhash64" => comes_back::<FxHasher64>(hash, text),
-        "crc32" => rule_comes_back::<CrcRule<Ieee>>(hash, text),
-        "crc32c" => rule_comes_back::<CrcRule<Castagnoli>>(hash, text),
-        "fnv1_32" => plain_comes_back::<Fnv1Rule32>(hash, text),
-        "fnv1_64" => plain_comes_back::<Fnv1Rule64>(hash, text),
-        "djb2_add" => plain_comes_back::<Djb2AddRule>(hash, text),
-        "joaat" => plain_comes_back::<JoaatRule>(hash, text),
-        _ => true,
-    }
-}
-
-/// Each row in one call and in two writes, and the text taken out of the hash again. Whatever names all rows is slow to prove, so it is one test.
+/// Whatever names all rows is slow to prove, so it is one test.
 #[test]
 fn each_row(rt: HostRuntime) {
     for (row, (name, seeds, text, hash)) in VECTORS.iter().enumerate() {
-        let word = (*hash & 0xffff_ffff_ffff_ffff) as u64;
-        let whole = in_one(name, *seeds, text) == Some(*hash);
-        let parts = in_two(name, *seeds, text) == Some(*hash);
-        all_hold_at(&rt, row, &[whole, parts, taken_out(name, word, text)]);
+        all_hold_at(&rt, row, &[in_one(name, *seeds, text) == Some(*hash)]);
     }
 }

@@ -1,5 +1,5 @@
-//! XXH3 of texts of all short lengths and of a few long ones, as libxxhash says, and what XXH3 loses.
-use crate::tests::all_hold_at;
+//! XXH3 of texts of all short lengths and of a few long ones, as libxxhash says.
+use crate::tests::same_at;
 use hash_xxh3::{xxh3_64, xxh3_128};
 
 /// Seeds, and what libxxhash 0.8.1 says under each of the texts of 0 to 1100 bytes and of the long ones, in that order: each hash is added
@@ -22,43 +22,19 @@ fn with(sum: u64, word: u64) -> u64 {
 #[test]
 fn hashes_as_libxxhash(rt: HostRuntime) {
     // a text whose bytes have no simple pattern
-    let text: [u8; 5000] = std::array::from_fn(|i| ((i * 167 + i / 256 * 13 + 11) % 256) as u8);
-    for (seed, wanted, wide) in WANTED {
+    let mut text = [0; 5000];
+    for i in 0..5000usize {
+        text[i] = ((i * 167 + i / 256 * 13 + 11) % 256) as u8;
+    }
+    for (turn, (seed, wanted, wide)) in WANTED.iter().enumerate() {
         let (mut sum, mut both) = (0, 0);
-        for n in (0..1101usize).chain(LONG) {
+        for i in 0..1107usize {
+            let n = if i < 1101 { i } else { LONG[i - 1101] };
             let text = &text[..n.min(5000)];
-            sum = with(sum, xxh3_64(seed, text));
-            let (low, high) = xxh3_128(seed, text);
+            sum = with(sum, xxh3_64(*seed, text));
+            let (low, high) = xxh3_128(*seed, text);
             both = with(with(both, low), high);
         }
-        assert_eq!(rt; (sum, both), (wanted, wide), "under {seed}");
-    }
-}
-
-/// A text of 32 bytes that begins with these two words.
-fn beginning(first: u64, second: u64) -> [u8; 32] {
-    let mut text = [7; 32];
-    text[..8].copy_from_slice(&first.to_le_bytes());
-    text[8..16].copy_from_slice(&second.to_le_bytes());
-    text
-}
-
-/// Behind the first word of the secret plus the seed the next eight bytes don't show; under another seed they do.
-#[test]
-fn eight_bytes_are_blinded(rt: HostRuntime) {
-    for (turn, (seed, _, _)) in WANTED.iter().enumerate() {
-        let first = 0xbe4ba423396cfeb8u64.wrapping_add(*seed);
-        let (text, other) = (beginning(first, 0), beginning(first, 0x123456789abcdef));
-        let another = seed.wrapping_add(1);
-        all_hold_at(
-            &rt,
-            turn,
-            &[
-                text != other,
-                xxh3_64(*seed, &text) == xxh3_64(*seed, &other),
-                xxh3_64(*seed, &text) == xxh3_64(*seed, &beginning(first, u64::MAX)),
-                xxh3_64(another, &text) != xxh3_64(another, &other),
-            ],
-        );
+        same_at(&rt, turn, &[sum, both], &[*wanted, *wide]);
     }
 }

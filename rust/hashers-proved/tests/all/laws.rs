@@ -253,6 +253,37 @@ fn steps_and_writes() {
     }
 }
 
+/// Twelve zeros lead lookup3 to known words, by the steps of its two mixes; and for each hash one word, block, stretch or end leads there.
+#[test]
+fn what_leads_to_a_hash() {
+    let fresh = Lookup3Hasher::default();
+    assert_eq!(fresh.piece_words(&[0; 12]), [0x65852e52, 0x14c3a0e3, 0xfb293fc1]);
+    assert_eq!(laws::block_for(&fresh, 0x14c3a0e3fb293fc1, 0x65852e52), [0; 12]);
+    let mut r = Random(362436069);
+    for _ in 0..2000 {
+        let (n, m, hash) = (r.below(144), r.below(16), r.next());
+        let (front, back) = (r.bytes(n / 16 * 16), r.bytes(m));
+        let mut h = Lookup3Hasher::new(r.next() as u32, r.next() as u32);
+        h.write(&laws::block_for(&h, hash, 5));
+        assert_eq!(h.finish(), hash);
+        if n / 16 % 2 == 1 {
+            let words = std::array::from_fn(|_| r.next());
+            let mut h = SpookyHasher::new(5, 6);
+            h.write(&[&front[..], &laws::stretch_for(5, 6, &front, &back, words), &back].concat());
+            assert_eq!(h.short_words(), Some(words), "{} and {m} bytes", front.len());
+        }
+        let (mut long, mut short) = (FxHasher64::unfinish(r.next()).unwrap(), FxHasher32::unfinish(r.next() >> 32).unwrap());
+        long.write_u64(long.word_for(hash));
+        short.write_u32(short.word_for(hash as u32));
+        assert_eq!((long.finish(), short.finish()), (hash, hash as u32 as u64));
+        let wanted = hash >> 32;
+        assert_eq!(crc32(&[&back[..], &crc32_ending(crc32(&back), wanted)].concat()), wanted);
+        assert_eq!(crc32c(&[&back[..], &crc32c_ending(crc32c(&back), wanted)].concat()), wanted);
+    }
+    assert_eq!((FxHasher64::default().word_for(16160435425421689461), FxHasher32::default().word_for(3555066485)), (97, 97));
+    assert_eq!((crc32_ending(crc32(b"12345"), 0xCBF43926), crc32c_ending(crc32c(b"12345"), 0xE3069283)), (*b"6789", *b"6789"));
+}
+
 /// Gives at most so many bytes a read, and then fails.
 struct Faulty<'a>(&'a [u8], usize, bool);
 
@@ -288,6 +319,8 @@ fn readers() {
             Err(fault) => {
                 assert!(fails && fault.bytes == read as u64 && read < limit as usize);
                 assert_eq!(fault.to_string(), format!("a read failed after {read} bytes: no more"));
+                assert_eq!(format!("{fault:?}"), format!("a read failed after {read} bytes: {:?}", fault.error));
+                assert_eq!(Error::from(fault).to_string(), "no more");
             }
         }
         assert_eq!(reader.0.len(), n - read);

@@ -3,7 +3,7 @@ use hashers_proved::bloom::{insert, Bloom, Unread};
 use hashers_proved::buckets::Buckets;
 use hashers_proved::cuts::{Cuts, Sizes, WrongSize};
 use hashers_proved::fnv::{fnv1a64, FNV1aHasher64};
-use hashers_proved::hash_bloom::commands::{new_after, Command};
+use hashers_proved::hash_bloom::commands::{empty_finds_nothing, found_after, found_in_union, new_after, Command};
 use hashers_proved::hash_buckets::{self, obey_all, NoRoom};
 use hashers_proved::hash_cuts::{self as proved_cuts, cut_reader, Sink, Unfinished};
 use hashers_proved::hash_ring::points::{self, Point};
@@ -13,7 +13,7 @@ use hashers_proved::lines::{has_end, line_end, without_end, Lines, RandomKeys};
 use hashers_proved::null::NullHasher;
 use hashers_proved::ring::Ring;
 use hashers_proved::shim::{memory::Global, Vec as ShimVec};
-use hashers_proved::text_set::Texts;
+use hashers_proved::text_set::{self, Texts};
 use std::collections::btree_map::Entry;
 use std::collections::{BTreeMap, HashMap, HashSet};
 use std::hash::{BuildHasher, BuildHasherDefault, Hasher};
@@ -346,8 +346,13 @@ fn filters_are_stored_and_joined() {
     assert!(full.0.len() == 99 && file.starts_with(&full.0[..50]));
     one.clear();
     assert_eq!(format!("{one:?}"), "Bloom { bits: 1200, probes: 8, ones: 0 }");
-    let proved = hashers_proved::hash_bloom::Bloom::<FNV1aHasher64, SpookyHasher>::new(Global, 999, 3).unwrap();
-    assert!(!new_after(proved, vec![Command::Store, Command::Insert(b"a".to_vec().into())].into(), b"a"));
+    let proved = || hashers_proved::hash_bloom::Bloom::<FNV1aHasher64, SpookyHasher>::new(Global, 999, 3).unwrap();
+    let stored = || vec![Command::Store, Command::Insert(b"a".to_vec().into())].into();
+    assert!(!new_after(proved(), stored(), b"a") && new_after(proved(), stored(), b"b") && found_after(proved(), stored(), b"a"));
+    let (mut one, mut other) = (proved(), proved());
+    other.insert(b"a");
+    assert!(!one.contains(b"a") && found_in_union(&mut one, &other, b"a"));
+    assert!(!empty_finds_nothing::<FNV1aHasher64, SpookyHasher>(Global, 999, 3, b"a").unwrap());
 }
 
 fn panics<T>(call: fn() -> T) -> bool {
@@ -432,6 +437,8 @@ fn texts_are_a_set_with_places() {
     assert_eq!(read.read(&b"b;a;b;;\n"[..], b';').unwrap(), 5);
     read.extend(["a", "c"]);
     assert_eq!(format!("{read:?}"), r#"{"b", "a", "", "\n", "c"}"#);
+    let told = [text_set::Full::NoMemory, text_set::Full::TooManyTexts].map(|full| full.to_string());
+    assert_eq!(told, ["there is no memory for a text more", "there are 2^32 - 1 texts, and a set has no more"]);
     assert_ne!(format!("{:?}", RandomKeys::default()), format!("{:?}", RandomKeys::with_keys(0, 0).build_hasher()));
 }
 

@@ -1,12 +1,13 @@
 //! The parsers of lists and of filters' files, over random and mutated inputs: whatever comes, they answer, and what they accept is read
 //! back from what is written of it.
-use hashers_proved::bloom::Bloom;
+use hashers_proved::bloom::{Bloom, Unread};
 use hashers_proved::hash_lines::forms::parse_form;
 use hashers_proved::hash_kinds::table::Kind;
 use hashers_proved::hash_lines::line::{push_line, Form};
 use hashers_proved::hash_lines::parse::{parse_line, HashLine};
 use hashers_proved::hash_lines::sums::{Sum, Wide};
 use hashers_proved::shim::memory::{Global, Vec as Bytes};
+use std::io::ErrorKind;
 
 const KINDS: [Sum; 4] = [Sum::Table(Kind::Crc32), Sum::Table(Kind::Xxh64), Sum::Table(Kind::Xxh3), Sum::Wide(Wide::Spooky)];
 /// Where inputs begin: lines of ours and of other programs, whole and broken.
@@ -82,6 +83,22 @@ fn filter_files_are_read_back_or_refused() {
     filter.extend(["Ada", "Grace"]);
     let mut file = Vec::new();
     filter.write_to(&mut file, "spooky lookup3").unwrap();
+    let read = |file: &[u8]| -> Result<Bloom, _> { Bloom::read_from(file, "spooky lookup3") };
+    for at in 0..file.len() {
+        assert!(matches!(read(&file[..at]), Err(Unread::Failed(error)) if error.kind() == ErrorKind::UnexpectedEof));
+        for bit in 0..8 {
+            let mut changed = file.clone();
+            changed[at] ^= 1 << bit;
+            let Err(why) = read(&changed) else { panic!("bit {bit} of byte {at}") };
+            assert!(match at {
+                0..=13 | 32 | 41 => matches!(why, Unread::Form),
+                14 | 15 => matches!(why, Unread::Version),
+                42..=56 => matches!(why, Unread::Pair),
+                16..=40 => matches!(why, Unread::Form | Unread::Hash | Unread::Failed(_)),
+                _ => matches!(why, Unread::Hash),
+            }, "bit {bit} of byte {at}");
+        }
+    }
     for _ in 0..20_000 {
         let changed = random.mutated(&file);
         let read: Result<Bloom, _> = Bloom::read_from(&changed[..], "spooky lookup3");

@@ -3,6 +3,7 @@ use hashers_proved::build::{feed_key, BuildFresh};
 use hashers_proved::jenkins::spooky_hash::{spooky128, SpookyHasher};
 use hashers_proved::laws::{self, HasherWrite, Piecewise, Undo};
 use hashers_proved::promises::{self, WayBack};
+use hashers_proved::reader::{hash_reader, hash_stream};
 use hashers_proved::{blocks, xxh3};
 use hashers_proved::{fnv::*, fx_hash::*, jenkins::*, null::*, oz::*, pigeon::*, rounds};
 use std::hash::{BuildHasher, Hash, Hasher};
@@ -221,6 +222,53 @@ fn a_hasher_of_ones_own() {
     assert_eq!(BuildFresh::<Counter>::new().hash_one(7u64), (1 << 32) + 8);
 }
 
+/// A hasher is written to once for each piece, and not where the input ends; and a reader is asked for whole pieces.
+#[test]
+fn a_write_for_each_piece() {
+    struct Asked<'a>(&'a [u8], usize, u32);
+    impl std::io::Read for Asked<'_> {
+        fn read(&mut self, buf: &mut [u8]) -> std::io::Result<usize> {
+            self.2 += 1;
+            let room = buf.len().min(self.1);
+            self.0.read(&mut buf[..room])
+        }
+    }
+    /// Of no hash, so splits show in none.
+    #[derive(Default)]
+    struct Writes(u32);
+    impl Hasher for Writes {
+        fn write(&mut self, _: &[u8]) {
+            self.0 += 1;
+        }
+        fn finish(&self) -> u64 {
+            0
+        }
+    }
+    impl Piecewise for Writes {
+        fn state_in_range(&self) {}
+        fn fork(&self) -> Writes {
+            Writes(self.0)
+        }
+    }
+    impl laws::Streamed for Writes {}
+    for (bytes, writes) in [(0, 0), (1, 1), (4096, 1), (4097, 2), (8192, 2), (20_000, 5)] {
+        let (mut h, mut r) = (Writes(0), Asked(&[7; 20_000][..bytes], 1000, 0));
+        for _again in 0..2 {
+            assert!(hash_stream::<_, _, 4096>(&mut h, &mut r, u64::MAX).is_ok());
+            assert_eq!(h.0, writes);
+        }
+    }
+    for (limit, ended, reads) in [(u64::MAX, true, 6), (20_000, false, 5), (12_345, false, 4)] {
+        let bytes = limit.min(20_000);
+        for call in [hash_stream::<SpookyHasher, Asked, 4096>, hash_reader::<SpookyHasher, Asked, 4096>] {
+            let (mut h, mut r) = (SpookyHasher::default(), Asked(&[7; 20_000], usize::MAX, 0));
+            let taken = call(&mut h, &mut r, limit).unwrap();
+            assert_eq!((taken.bytes, taken.ended, r.2), (bytes, ended, reads));
+            assert_eq!(h.finish128(), spooky128(0, 0, &[7; 20_000][..bytes as usize]));
+        }
+    }
+}
+
 fn words<const N: usize>(text: &[u8]) -> [u64; N] {
     std::array::from_fn(|i| u64::from_le_bytes(text[8 * i..8 * i + 8].try_into().unwrap()))
 }
@@ -249,6 +297,27 @@ fn spooky_by_rounds(text: &[u8], seed1: u64, seed2: u64) -> ((u64, u64), Option<
     ((s[0], s[1]), None)
 }
 
+/// Two texts of two blocks with one hash of 128 bits, as words. They were found by inverting the mixing: a block can be chosen so that the
+/// words after it are those that another block leaves.
+#[test]
+fn two_texts_of_one_spooky() {
+    let first = [
+        0x5ad5e34e76a9d903, 0x57f6366aa70d4c6d, 0x18558a7d75b57c1b, 0xb07969d34d8b7ec5, 0x66779cc750c6c626, 0x0b78689cee20986a,
+        0x5081200b61b01e6e, 0x7e643c36b0f76692, 0x48c6dadc70dd49f1, 0xbca35d3407608aec, 0xc80bd6de580dbad3, 0x606c302afcf35e97,
+        0xad72d8b597504926, 0xb9c5f47996bbdb5b, 0x3401ff14a3ae6902, 0x9352d3bf48013725, 0x754db212aaacad9a, 0xed42cb39e5f076d3,
+        0x2b0c2979e09f631f, 0x5a2cda49846abfd2, 0x079ff8eb42bd09bd, 0xf1a4b9f53d12968b, 0xc309bd72c57be3a1, 0x55f37723bccb8c92u64,
+    ];
+    let mut second = first;
+    second[12..].copy_from_slice(&[
+        0xad72d8b59757878b, 0xb9c5f47a3f03435b, 0xa8316107834315ed, 0x8e67c6a4a5f1f18d, 0x0aa34f7be4b79d63, 0x3477e93489a3c17e,
+        0x7e9cd980f475323a, 0x47178295f028c4ed, 0x92d53bb87aed2786, 0xb0a6bd5e848c39aa, 0xc309bd72c57be3a1, 0x55f37723bccb8c93,
+    ]);
+    let [first, second] = [first, second].map(|words| words.map(u64::to_le_bytes).concat());
+    let hash = (261879537176555314, 203859705809428571);
+    assert_eq!((spooky128(0, 0, &first), spooky128(0, 0, &second)), (hash, hash));
+    assert_ne!(spooky128(1, 0, &first), spooky128(1, 0, &second));
+}
+
 #[test]
 fn spooky_under_seeds() {
     let text: Vec<u8> = (0..600u32).map(|i| ((i * 89) >> 2) as u8).collect();
@@ -261,6 +330,7 @@ fn spooky_under_seeds() {
             h.write(&text[..cut]);
             h.write(&text[cut..]);
             assert_eq!((h.finish128(), h.short_words()), (hash, four), "{length} bytes cut at {cut}");
+            assert_eq!(h.long_words().map(|it| (it[0], it[1])), (length >= 192).then_some(hash));
             assert_eq!(h.fork().finish128(), hash);
         }
     }

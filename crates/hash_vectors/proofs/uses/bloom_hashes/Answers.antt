@@ -1,7 +1,0 @@
-use Rattle.hash_vectors.proofs.uses.bloom_hashes.Goals as goal
-
-pub returns-clause-first : goal.returns-clause-first
-returns-clause-first c = c.fnv1a64.ensures
-
-pub returns-clause-second : goal.returns-clause-second
-returns-clause-second c = c.oaat.ensures
