@@ -80,12 +80,14 @@ const NAMES: [&[u8]; 8] = [b"", b"a", b"b", b"ab", b"ba", b"c", b"abc", b"d"];
 
 /// That the table has just these values of the names, and no other key.
 fn has(rt: &impl Abort, table: &Buckets<SpookyHasher, 3>, values: &[Option<u64>; 8]) {
-    let mut held = 0u128;
-    for (name, value) in NAMES.iter().zip(values) {
-        held = held.wrapping_add(u128::from(value.is_some()));
-        all_hold(rt, &[table.get(name) == *value]);
+    let mut held = 0u8;
+    for at in 0..8usize {
+        if values[at].is_some() {
+            held = held.saturating_add(1);
+        }
+        all_hold(rt, &[table.get(NAMES[at]) == values[at]]);
     }
-    all_hold(rt, &[table.len() == held]);
+    all_hold(rt, &[table.len() == u128::from(held)]);
 }
 
 /// Puts a value under a name; `false` where there is no memory for the test's own key. Where the table has none, key and value come back

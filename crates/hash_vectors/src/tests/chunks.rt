@@ -1,6 +1,5 @@
 //! What `cuts` does over files in memory. The lines were computed by another program, from the definitions.
-use crate::tests::shelf::{ABOUT, Came, Shelf, ended_or_told, fill, has_ended};
-use cli::outcome::{failure_of, status_of};
+use crate::tests::shelf::{ABOUT, Came, Shelf, came, ended_or_told, fill, has_ended};
 use cuts_core::listing::Lines;
 use cuts_core::outcome::{call_of, outcome_of};
 use std::alloc::Global;
@@ -37,8 +36,7 @@ fn run(alloc: Global, words: &[&str], until_fault: usize, paper: &mut Paper) -> 
         until_fault,
     };
     let files = [whole(b"keys", &KEYS), file, whole(b"c", b"123456789")];
-    let outcome = outcome_of(alloc, &Shelf { files: &files }, &call, ABOUT, &mut lines);
-    Ok((status_of(&outcome), failure_of(&outcome)))
+    came(outcome_of(alloc, &Shelf { files: &files }, &call, ABOUT, &mut lines))
 }
 
 /// Of a file that fails the chunks have lines that end within the bytes before, and the next file is read.

@@ -1,8 +1,7 @@
 //! What the program `dedup` writes, over readers and writers that fail, and where memory is refused.
-use crate::tests::shelf::{ABOUT, Came, ended_or_told, has_ended};
+use crate::tests::shelf::{ABOUT, Came, came, ended_or_told, has_ended};
 use crate::tests::{all_hold, all_hold_at};
 use cli::inputs::Complaints;
-use cli::outcome::{failure_of, status_of};
 use dedup_core::outcome::{call_of, outcome_of};
 use std::alloc::Global;
 use std::io;
@@ -30,11 +29,10 @@ fn run(rt: &impl Abort, alloc: Global, words: &[&str], r: Script<'_>, paper: &mu
     let mut output = BufWriter::with_capacity(alloc, 8, paper)?;
     let keys = RandomKeys::with_keys(1, 2);
     let mut told = Failures { count: 0 };
-    let outcome = outcome_of(alloc, keys, &call, ABOUT, &mut [r], &mut told, &mut output);
-    let (status, failure) = (status_of(&outcome), failure_of(&outcome));
-    let failed = status == 1 && failure.is_empty();
-    all_hold(rt, &[told.count == usize::from(failed)]);
-    Ok((status, failure))
+    let ended = came(outcome_of(alloc, keys, &call, ABOUT, &mut [r], &mut told, &mut output));
+    let failed = matches!(ended, Ok((1, failure)) if failure.is_empty());
+    all_hold(rt, &[failed == (told.count == 1)]);
+    ended
 }
 
 const TEXT: &[u8] = b"b\na\nb\na\nc\n";

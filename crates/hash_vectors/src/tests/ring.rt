@@ -5,6 +5,7 @@ use crate::tests::all_hold;
 use hash_ring::{Node, Refused, Ring};
 use hashers::jenkins::spooky_hash::SpookyHasher;
 use std::alloc::{AllocError, Global};
+use std::process::Abort;
 
 /// A node.
 fn node(alloc: Global, name: &[u8], weight: u64) -> Result<Node, AllocError>
@@ -25,18 +26,8 @@ fn trees(alloc: Global) -> Result<Vec<Node>, AllocError>
     Ok(vec![in alloc; oak, elm, ash]?)
 }
 
-/// How much of the ring ash, elm and oak own, and who owns its places. Where memory is refused all nodes come back, or no shares.
-#[test]
-fn refused_nodes_come_back(rt: HostRuntime) {
-    let alloc = rt.alloc();
-    let Ok(nodes) = trees(alloc) else {
-        return;
-    };
-    let ring = match Ring::<SpookyHasher>::from_nodes(alloc, nodes) {
-        Ok(ring) => ring,
-        Err(Refused::NoRoom(nodes)) => return all_hold(&rt, &[nodes.len() == 3]),
-        Err(Refused::IsThere(_)) => panic!(rt; "three names are two"),
-    };
+/// How much of the ring ash, elm and oak own, if there is memory for it, and who owns its places.
+fn has_places(rt: &impl Abort, alloc: Global, ring: &Ring<SpookyHasher>) {
     for (place, name) in [
         (0, b"elm"),
         (2716178055405275377, b"elm"),
@@ -44,7 +35,7 @@ fn refused_nodes_come_back(rt: HostRuntime) {
         (14890085688658093215, b"oak"),
         (u64::MAX, b"elm"),
     ] {
-        all_hold(&rt, &[ring.owner_at(place) == Some(name.as_slice())]);
+        all_hold(rt, &[ring.owner_at(place) == Some(name.as_slice())]);
     }
     if let Ok(shares) = ring.shares(alloc) {
         let wanted = [
@@ -52,7 +43,20 @@ fn refused_nodes_come_back(rt: HostRuntime) {
             3817952004556595233,
             2454884435900138546,
         ];
-        all_hold(&rt, &[shares.as_slice() == wanted.as_slice()]);
+        all_hold(rt, &[shares.as_slice() == wanted.as_slice()]);
+    }
+}
+
+/// Where memory is refused all nodes come back, or no shares.
+#[test]
+fn refused_nodes_come_back(rt: HostRuntime) {
+    let Ok(nodes) = trees(rt.alloc()) else {
+        return;
+    };
+    match Ring::<SpookyHasher>::from_nodes(rt.alloc(), nodes) {
+        Ok(ring) => has_places(&rt, rt.alloc(), &ring),
+        Err(Refused::NoRoom(nodes)) => all_hold(&rt, &[nodes.len() == 3]),
+        Err(Refused::IsThere(_)) => all_hold(&rt, &[false]),
     }
 }
 
@@ -66,17 +70,12 @@ fn refused_names_come_back(rt: HostRuntime) {
         let Ok(name) = Vec::from_slice(alloc, text.as_slice()) else {
             continue;
         };
-        let (back, is_there) = match ring.add(name, 2) {
-            Ok(()) => {
-                let more = ring.len().checked_sub(before);
-                all_hold(&rt, &[more == Some(1), ring.owner(b"a").is_some()]);
-                continue;
-            }
-            Err(Refused::IsThere(name)) => (name, true),
-            Err(Refused::NoRoom(name)) => (name, false),
+        let (more, is_back) = match ring.add(name, 2) {
+            Ok(()) => (1, true),
+            Err(Refused::IsThere(name)) => (0, turn == 2 && name.as_slice() == text.as_slice()),
+            Err(Refused::NoRoom(name)) => (0, name.as_slice() == text.as_slice()),
         };
-        let is_back = back.as_slice() == text.as_slice();
-        let claims = [is_back, ring.len() == before, !is_there || turn == 2];
+        let claims = [ring.len().checked_sub(before) == Some(more), is_back];
         all_hold(&rt, &claims);
     }
 }

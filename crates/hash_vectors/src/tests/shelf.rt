@@ -2,6 +2,7 @@
 use crate::tests::all_hold_at;
 use cli::folder::Folder;
 use cli::frame::About;
+use cli::outcome::{Outcome, Words, failure_of, status_of};
 use std::io;
 use std::io::{Error, ErrorKind};
 use std::process::Abort;
@@ -44,6 +45,11 @@ pub fn fill(bytes: &mut [u8]) {
 
 /// What became of a call: its status, and what failed.
 pub type Came = io::Result<(u8, &'static str)>;
+
+/// What became of a call that ended so.
+pub fn came<Misuse: Words + Drop, Own: Words + Drop>(outcome: Outcome<Misuse, Own>) -> Came {
+    Ok((status_of(&outcome), failure_of(&outcome)))
+}
 
 /// That a call ended with this status, and wrote this.
 pub fn has_ended(

@@ -1,6 +1,5 @@
 //! What `hashsum` does over files in memory.
-use crate::tests::shelf::{ABOUT, Came, Shelf, ended_or_told, has_ended};
-use cli::outcome::{failure_of, status_of};
+use crate::tests::shelf::{ABOUT, Came, Shelf, came, ended_or_told, has_ended};
 use hashsum_core::check::Counts;
 use hashsum_core::outcome::{call_of, outcome_of};
 use hashsum_core::reports::Reports;
@@ -19,8 +18,7 @@ fn run(alloc: Global, words: &[&str], files: &[File<'_>], paper: &mut Paper) -> 
     let words = arguments_of(alloc, words)?;
     let call = call_of(alloc, &words)?;
     let mut output = BufWriter::with_capacity(alloc, 16, paper)?;
-    let outcome = outcome_of(alloc, &Shelf { files }, &call, ABOUT, &mut output);
-    Ok((status_of(&outcome), failure_of(&outcome)))
+    came(outcome_of(alloc, &Shelf { files }, &call, ABOUT, &mut output))
 }
 
 const LINE: &[u8] = b"elf (a) = 00000061\n";
