@@ -1,24 +1,20 @@
-//! Tests of all libraries: values from outside the proofs, and readers, writers and memory that fail.
+//! Tests of all libraries: values from outside the proofs, and readers and memory that fail.
 //! What ends a test where it fails stands here, so that it is proved once.
 use std::process::Abort;
 
 mod buckets;
 mod calls;
-mod chunks;
 mod cuts;
 mod filter_files;
 mod filters;
 mod laws;
-mod lines;
 mod numbers;
 mod original;
 mod readers;
 mod ring;
 mod rounds;
 mod sample;
-mod shelf;
 mod spread;
-mod sums;
 mod two_texts;
 mod vectors;
 mod xxh3;

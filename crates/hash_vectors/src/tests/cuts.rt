@@ -1,7 +1,6 @@
 //! Texts cut into chunks. The lengths of the chunks were computed by another program, from the definitions.
 ghost use Rattle.std.specs.Prelude.{⊤};
 
-use crate::tests::shelf::fill;
 use crate::tests::{all_hold, same};
 use hash_cuts::{Cuts, Sink, Unfinished, cut_reader};
 use std::alloc::AllocError;
@@ -11,6 +10,17 @@ use streams::rehearsal::Script;
 const LENGTHS: [u64; 18] = [
     122, 536, 73, 472, 579, 139, 108, 327, 205, 129, 142, 735, 231, 146, 430, 73, 412, 141,
 ];
+
+/// Fills with bytes without an order: the high ones of a generator by D. E. Knuth, which goes on by a product and a sum.
+fn fill(bytes: &mut [u8]) {
+    let mut state: u64 = 1;
+    for byte in bytes {
+        state = state
+            .wrapping_mul(6364136223846793005)
+            .wrapping_add(1442695040888963407);
+        *byte = (state >> 56) as u8;
+    }
+}
 
 /// A sink that keeps how many chunks it took, and whether their lengths are the first of those.
 #[derive(Drop)]
