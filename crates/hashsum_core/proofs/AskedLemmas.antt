@@ -1,6 +1,5 @@
 -- The hash that a call asks for.
-use Rattle.std.proofs.lemmas.Grind.{common_steps}
-use Rattle.hashsum_core.proofs.Common.{if◌then◌else◌, ◌≡◌, inl, inr, ℕ, zero, suc, Bool, true, false, List, [], ◌∷◌, fold, codes, Option, Some, None, IsSome, Contains, refl, sym, ap, ◌∙◌, subst, arith, false≢true, or_left, or_right, Sum, Tells, Saying, given, value_after, value_of, Opens, is_named, kind_of, kinds, poly61_at_both, siphash24_at, sum_of, find, TellsAny, asked, asks_for, asks_for_keyed, asks_for_poly61, asks_for_siphash24, is_by_name, key_file, key_rule, misuse_of, GivesKeys, HasEndedWell, AreKeysFor, ArePoly61Keys, MayBeKeys, sum_under, name_in, nat_tests}
+use Rattle.hashsum_core.proofs.Common.{if◌then◌else◌, ◌≡◌, inl, inr, ℕ, zero, suc, Bool, true, false, List, [], ◌∷◌, fold, codes, Option, Some, None, IsSome, Contains, refl, sym, ap, ◌∙◌, subst, arith, false≢true, or_left, or_right, Sum, Tells, Saying, given, value_after, value_of, Opens, is_named, kind_of, kinds, poly61_at_both, siphash24_at, sum_of, find, TellsAny, asked, asks_for, asks_for_keyed, asks_for_poly61, asks_for_siphash24, is_by_name, key_file, key_rule, misuse_of, GivesKeys, HasEndedWell, AreKeysFor, ArePoly61Keys, MayBeKeys, sum_under, name_in, nat_tests, common_steps}
 use Rattle.cli.specs.Call.Saying.{Gives, Operand, Errs}
 use Rattle.hashsum_core.specs.declared.keys.KeyRule.{KeyRule}
 use Rattle.hashsum_core.specs.declared.keys.KeyRule.TheVariants.{Any, Poly61}

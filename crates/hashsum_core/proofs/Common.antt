@@ -57,3 +57,6 @@ pub use Rattle.hashsum_core.specs.Lists.AreListed.{next_list, no_list}
 pub use denote.Ref.{Bor}
 pub use Rattle.hash_lines.specs.declared.sums.Wide.{Wide}
 pub use Rattle.hashsum_core.specs.Summing.{IsSummed, line_told}
+pub use Rattle.std.proofs.lemmas.Grind.{common_steps}
+pub use Rattle.cli.proofs.ToldLemmas.{told_next, told_start, torn_kept, torn_within, names_more, names_rest}
+pub use Rattle.hash_theorems.proofs.RangeLemmas.{murmur3_below, spooky_below, spooky_v1_below, xxh3_below, xxh128_below}

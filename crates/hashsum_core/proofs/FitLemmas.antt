@@ -1,6 +1,5 @@
 -- Each hash of the table is below 2 to the power of its bits.
-use Rattle.std.proofs.lemmas.Grind.{common_steps}
-use Rattle.hashsum_core.proofs.Common.{ℕ, ◌*◌, ◌^◌, ◌<◌, List, [], ◌∷◌, length, slice_index, fold, map, take, drop, All, arith, lit<, All-drop, All-head, All-tail, All-take, mod_below, pow_pos, xor_lt, AreTwoWords, lookup3_answer, lookup3_from, lookup3-AreTwoWords, IsText, rules, nat_tests}
+use Rattle.hashsum_core.proofs.Common.{ℕ, ◌*◌, ◌^◌, ◌<◌, List, [], ◌∷◌, length, slice_index, fold, map, take, drop, All, arith, lit<, All-drop, All-head, All-tail, All-take, mod_below, pow_pos, xor_lt, AreTwoWords, lookup3_answer, lookup3_from, lookup3-AreTwoWords, IsText, rules, nat_tests, common_steps}
 use Rattle.hash_words.specs.Words.{le}
 use Rattle.hash_words.specs.Pieces.{pieces}
 use Rattle.hash_words.proofs.ByteLemmas.{le-few}

@@ -1,6 +1,5 @@
 -- Checks by two keys.
-use Rattle.std.proofs.lemmas.Grind.{common_steps}
-use Rattle.hashsum_core.proofs.Common.{◌≡◌, Bool, ℕ, ◌+◌, ◌*◌, ◌^◌, ◌<◌, List, Option, Some, None, Result, arith, mod-lt, mod-eq_of_lt, Error, prime61, poly61_at_both, append-nil, IsVerdict, ReadsFile, HoldsOnly, Same, nat_tests}
+use Rattle.hashsum_core.proofs.Common.{◌≡◌, Bool, ℕ, ◌+◌, ◌*◌, ◌^◌, ◌<◌, List, Option, Some, None, Result, arith, mod-lt, mod-eq_of_lt, Error, prime61, poly61_at_both, append-nil, IsVerdict, ReadsFile, HoldsOnly, Same, nat_tests, common_steps}
 use Rattle.hashers.specs.Text.{IsText}
 use Rattle.hash_keyed.specs.Poly61State.{poly61, MeetAtBoth}
 use Rattle.hashsum_core.proofs.LawLemmas.{never_passes}

@@ -1,8 +1,6 @@
 -- Lists whose lines are checked.
-use Rattle.std.proofs.lemmas.Grind.{common_steps}
-use Rattle.hashsum_core.proofs.Common.{◌≡◌, inl, inr, ℕ, true, List, [], ◌∷◌, ◌++◌, length, Option, Some, None, Ok, Err, refl, ap, sym, ◌∙◌, subst, arith, Keeps-refl, nat_tests, fold-append, IsAtEnd, Sum, Failure, Nothing, Opens, lines_by, ReadsNext, append_assoc, append-nil, counted, counts_of, said_of, uncounted, AreFirstLines, AreLines, EndsLine, EndsList, IsLineCheckOf, Checking, LineCheck, AreTold, Counts, rules}
+use Rattle.hashsum_core.proofs.Common.{◌≡◌, inl, inr, ℕ, true, List, [], ◌∷◌, ◌++◌, length, Option, Some, None, Ok, Err, refl, ap, sym, ◌∙◌, subst, arith, Keeps-refl, nat_tests, fold-append, IsAtEnd, Sum, Failure, Nothing, Opens, lines_by, ReadsNext, append_assoc, append-nil, counted, counts_of, said_of, uncounted, AreFirstLines, AreLines, EndsLine, EndsList, IsLineCheckOf, Checking, LineCheck, AreTold, Counts, rules, common_steps, told_next, told_start, torn_kept, torn_within}
 use Rattle.std.specs.Io.BufRead.{drop_through, take_through}
-use Rattle.cli.proofs.ToldLemmas.{told_next, told_start, torn_kept, torn_within}
 
 -- the first line of a text, and the lines of the rest
 next_first : (byte : ℕ) (text : List ℕ)

@@ -1,6 +1,5 @@
 -- Lists that pass.
-use Rattle.std.proofs.lemmas.Grind.{common_steps}
-use Rattle.hashsum_core.proofs.Common.{◌≡◌, inl, inr, ◌⊎◌, ℕ, ◌<◌, suc, zero-lt-suc, arith, Bool, true, false, ◌&&◌, nat_lt, List, [], ◌∷◌, Option, Ok, All, fold, Any, nat_tests, and_parts, All-cons, All-nil, All-push, Sum, Opens, counted, passes, counts_of, AreListed, EndsListOf, Checking, fails, is_same, HasPassed, LineCheck, Counts, next_list, no_list, rules}
+use Rattle.hashsum_core.proofs.Common.{◌≡◌, inl, inr, ◌⊎◌, ℕ, ◌<◌, suc, zero-lt-suc, arith, Bool, true, false, ◌&&◌, nat_lt, List, [], ◌∷◌, Option, Ok, All, fold, Any, nat_tests, and_parts, All-cons, All-nil, All-push, Sum, Opens, counted, passes, counts_of, AreListed, EndsListOf, Checking, fails, is_same, HasPassed, LineCheck, Counts, next_list, no_list, rules, common_steps}
 
 -- the counts behind others
 abbrev after : Counts → List (List ℕ × LineCheck) → Counts

@@ -1,6 +1,5 @@
 -- Checks that end well.
-use Rattle.std.proofs.lemmas.Grind.{common_steps}
-use Rattle.hashsum_core.proofs.Common.{◌≡◌, inl, inr, ℕ, arith, true, false, Bool, if◌then◌else◌, List, codes, Option, Some, None, Result, Ok, Err, All, refl, ap, subst, error_kind, Sum, Failure, Unwritten, Nothing, Opens, files_or, given, operands, Saying, kind_of, asked, checking_of, key_file, key_rule, misuse_of, summing_of, taken, work_by, work_of, EndsCall, EndsTask, EndsUnless, Checking, HasPassed, HasEndedWell, AreKeysFor, kinds, nat_tests}
+use Rattle.hashsum_core.proofs.Common.{◌≡◌, inl, inr, ℕ, arith, true, false, Bool, if◌then◌else◌, List, codes, Option, Some, None, Result, Ok, Err, All, refl, ap, subst, error_kind, Sum, Failure, Unwritten, Nothing, Opens, files_or, given, operands, Saying, kind_of, asked, checking_of, key_file, key_rule, misuse_of, summing_of, taken, work_by, work_of, EndsCall, EndsTask, EndsUnless, Checking, HasPassed, HasEndedWell, AreKeysFor, kinds, nat_tests, common_steps}
 use Rattle.std.specs.declared.io.ErrorKind.{ErrorKind}
 use Rattle.cli.specs.Outcome.{of_run, status_of, write_status}
 use Rattle.cli.specs.declared.outcome.Outcome.{Outcome}

@@ -1,6 +1,5 @@
 -- What a list that passed tells of a file is so.
-use Rattle.std.proofs.lemmas.Grind.{common_steps}
-use Rattle.hashsum_core.proofs.Common.{◌≡◌, inl, inr, ℕ, suc, zero-lt-suc, ◌<◌, Bool, true, false, if◌then◌else◌, List, [], ◌∷◌, length, map, Option, Some, None, Result, Ok, Err, Contains, sym, ap, ◌∙◌, subst, arith, slice_index_or, nat_tests, false≢true, get_or-map, length-map, Sum, AreTags, IsTag, Tells, lines_by, Opens, is_named, kind_of, find, is_itself, is_skipped, takes_sfv, verdict_on, IsLineCheck, bare, AreLines, taken, Checking, fails, HasHash, HasPassed, LineTells, ListTells, SumsFile, LineCheck, Unhashed, Unopened, name_in, kinds, sum_under, rules}
+use Rattle.hashsum_core.proofs.Common.{◌≡◌, inl, inr, ℕ, suc, zero-lt-suc, ◌<◌, Bool, true, false, if◌then◌else◌, List, [], ◌∷◌, length, map, Option, Some, None, Result, Ok, Err, Contains, sym, ap, ◌∙◌, subst, arith, slice_index_or, nat_tests, false≢true, get_or-map, length-map, Sum, AreTags, IsTag, Tells, lines_by, Opens, is_named, kind_of, find, is_itself, is_skipped, takes_sfv, verdict_on, IsLineCheck, bare, AreLines, taken, Checking, fails, HasHash, HasPassed, LineTells, ListTells, SumsFile, LineCheck, Unhashed, Unopened, name_in, kinds, sum_under, rules, common_steps}
 use Rattle.hash_lines.specs.declared.parse.HashLine.{HashLine}
 use Rattle.hash_lines.proofs.OneLemmas.{line_one}
 use Rattle.hashsum_core.specs.declared.check.LineCheck.TheVariants.{Skipped, Improper, Checked}

@@ -1,5 +1,4 @@
-use Rattle.std.proofs.lemmas.Grind.{common_steps}
-use Rattle.hashsum_core.proofs.Common.{arith, nat_tests}
+use Rattle.hashsum_core.proofs.Common.{arith, nat_tests, common_steps}
 use Rattle.hashsum_core.proofs.ListLemmas.{list_ended, so_far_more, so_far_start, torn_off}
 use Rattle.hashsum_core.proofs.check.check_lines.Goals as goal
 

@@ -1,5 +1,4 @@
-use Rattle.hashsum_core.proofs.Common.{◌+◌, ◌&&◌, [], ℕ, List, map, take, drop, get_or, subst, sym, writer_contents, AreListed, next_list, no_list, Bor}
-use Rattle.cli.proofs.ToldLemmas.{names_more, names_rest}
+use Rattle.hashsum_core.proofs.Common.{◌+◌, ◌&&◌, [], ℕ, List, map, take, drop, get_or, subst, sym, writer_contents, AreListed, next_list, no_list, Bor, names_more, names_rest}
 use Rattle.hashsum_core.proofs.check.check_lists.Goals as goal
 
 pub loop-list-init : goal.loop-list-init

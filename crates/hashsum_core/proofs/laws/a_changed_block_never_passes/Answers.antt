@@ -1,5 +1,4 @@
-use Rattle.std.proofs.lemmas.Grind.{common_steps}
-use Rattle.hashsum_core.proofs.Common.{◌≢◌, ℕ, List, lit<, mod-lt, refl, codes, murmur3_128_of, Murmur3At32, Xxh32, number_named, kind_named, arith, nat_tests}
+use Rattle.hashsum_core.proofs.Common.{◌≢◌, ℕ, List, lit<, mod-lt, refl, codes, murmur3_128_of, Murmur3At32, Xxh32, number_named, kind_named, arith, nat_tests, common_steps}
 use Rattle.hash_laws.specs.DifferWithin.{DifferInOneBlock}
 use Rattle.hash_blocks.specs.Murmur3x128.{murmur3_128}
 use Rattle.hashsum_core.proofs.KeyLemmas.{parts_are}

@@ -1,5 +1,4 @@
-use Rattle.std.proofs.lemmas.Grind.{common_steps}
-use Rattle.hashsum_core.proofs.Common.{ℕ, List, [], ◌∷◌, All, All-cons, All-nil, texts, Ported, FxHash, FxHash32, FxHash64, append-nil, DifferAtOneWord, arith, nat_tests}
+use Rattle.hashsum_core.proofs.Common.{ℕ, List, [], ◌∷◌, All, All-cons, All-nil, texts, Ported, FxHash, FxHash32, FxHash64, append-nil, DifferAtOneWord, arith, nat_tests, common_steps}
 use denote.Bor.{Bor}
 use Rattle.hashers.specs.Fx.{words32, words64}
 use Rattle.hashers.specs.Pieces.{DifferByOneWord}

@@ -1,11 +1,10 @@
-use Rattle.hashsum_core.proofs.Common.{ℕ, ◌+◌, ◌/◌, ◌^◌, ◌<◌, List, length, fold, lit<, range_with_len, mod_below, xor_lt, lookup3_from, lookup3-AreTwoWords, bits_of, hash_of, read_of, Kind, Ported, Crc32, Crc32c, Fnv1At32, Fnv1At64, Djb2Add, Joaat, Elf, Xxh32, Xxh64, Murmur3At32, Murmur3, SipHash13, SipHash24, Xxh3, Fnv1a32, Fnv1a64, Djb2, Sdbm, LoseLose, Bricolage, Oaat, Lookup3, Spooky, SpookyV1, PassThrough, FxHash, FxHash32, FxHash64, Null, IsText}
+use Rattle.hashsum_core.proofs.Common.{ℕ, ◌+◌, ◌/◌, ◌^◌, ◌<◌, List, length, fold, lit<, range_with_len, mod_below, xor_lt, lookup3_from, lookup3-AreTwoWords, bits_of, hash_of, read_of, Kind, Ported, Crc32, Crc32c, Fnv1At32, Fnv1At64, Djb2Add, Joaat, Elf, Xxh32, Xxh64, Murmur3At32, Murmur3, SipHash13, SipHash24, Xxh3, Fnv1a32, Fnv1a64, Djb2, Sdbm, LoseLose, Bricolage, Oaat, Lookup3, Spooky, SpookyV1, PassThrough, FxHash, FxHash32, FxHash64, Null, IsText, murmur3_below, spooky_below, spooky_v1_below, xxh3_below}
 use Rattle.hash_bytes.specs.Fnv.{fnv1a32_basis, fnv1a64_basis}
 use Rattle.hash_laws.specs.Reading.{cut}
 use Rattle.hash_more.specs.Crc32.{all_ones}
 use Rattle.hash_more.specs.Joaat.{joaat_from}
 use Rattle.hash_more.specs.JoaatLaws.{joaat_answer_below}
 use Rattle.hash_rounds.specs.Sums.{passthrough_from, sdbm_from}
-use Rattle.hash_theorems.proofs.RangeLemmas.{murmur3_below, spooky_below, spooky_v1_below, xxh3_below}
 use Rattle.hashsum_core.proofs.FitLemmas.{lookup3_below, lookup3_pieces, murmur3_mix, siphash_below, xxh32_mix, xxh64_mix}
 use Rattle.hashsum_core.proofs.laws.each_hash_fits.Goals as goal
 

@@ -1,7 +1,6 @@
-use Rattle.hashsum_core.proofs.Common.{ℕ, ◌%◌, ◌^◌, ◌<◌, ◌≤◌, List, arith, lit<, lit≤, digits_of, prime61, bits_of, both, Kind, Ported, Fnv1a32, sum_of, wide_of, width_in, width_of, IsText, Sum, Wide}
+use Rattle.hashsum_core.proofs.Common.{ℕ, ◌%◌, ◌^◌, ◌<◌, ◌≤◌, List, arith, lit<, lit≤, digits_of, prime61, bits_of, both, Kind, Ported, Fnv1a32, sum_of, wide_of, width_in, width_of, IsText, Sum, Wide, murmur3_below, spooky_below, xxh128_below}
 use Rattle.hash_lines.specs.declared.sums.Sum.TheVariants as sum
 use Rattle.hash_lines.specs.declared.sums.Wide.TheVariants as wide
-use Rattle.hash_theorems.proofs.RangeLemmas.{murmur3_below, spooky_below, xxh128_below}
 use Rattle.hashsum_core.proofs.FitLemmas.{siphash_below}
 use Rattle.hashsum_core.proofs.KeyLemmas.{in_64}
 use Rattle.hashsum_core.proofs.laws.each_number_has_its_digits.Goals as goal

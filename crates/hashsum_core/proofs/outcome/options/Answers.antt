@@ -1,5 +1,4 @@
-use Rattle.std.proofs.lemmas.Grind.{common_steps}
-use Rattle.hashsum_core.proofs.Common.{◌≡◌, List, ◌∷◌, ap₂, Choice, arith, nat_tests}
+use Rattle.hashsum_core.proofs.Common.{◌≡◌, List, ◌∷◌, ap₂, Choice, arith, nat_tests, common_steps}
 use Rattle.hashsum_core.proofs.outcome.options.Goals as goal
 
 -- one more of the list

@@ -1,5 +1,4 @@
-use Rattle.hashsum_core.proofs.Common.{◌+◌, ◌&&◌, ◌∷◌, ◌++◌, [], ℕ, List, Option, map, take, drop, get_or, is_some, ap, sym, Bor, IsSummed, line_told}
-use Rattle.cli.proofs.ToldLemmas.{names_more, names_rest, told_next, torn_within}
+use Rattle.hashsum_core.proofs.Common.{◌+◌, ◌&&◌, ◌∷◌, ◌++◌, [], ℕ, List, Option, map, take, drop, get_or, is_some, ap, sym, Bor, IsSummed, line_told, names_more, names_rest, told_next, torn_within}
 use Rattle.hashsum_core.proofs.sum.sum_files.Goals as goal
 
 pub returns-in-Err-clause-told : goal.returns-in-Err-clause-told
