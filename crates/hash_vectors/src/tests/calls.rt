@@ -1,10 +1,10 @@
 //! Calls of the hashers beside those of the vectors, each once, by values of other programs or by hand.
 use crate::tests::{all_hold, same};
-use hashers::fx_hash::{FxHasher32, FxHasher64};
+use hashers::fx_hash::{FxHasher32, FxHasher64, fxhash32, fxhash64};
 use hashers::jenkins::Lookup3Hasher;
 use hashers::jenkins::spooky_hash::SpookyHasher;
-use hashers::laws::{Piecewise, Undo, bucket_of, run_pieces, run_words32, run_words64};
-use hashers::oz::{DJB2Hasher, LoseLoseHasher};
+use hashers::laws::{Piecewise, bucket_of, run_pieces, run_words32, run_words64};
+use hashers::oz::DJB2Hasher;
 use std::hash::Hasher;
 
 #[test]
@@ -15,10 +15,6 @@ fn worked_examples(rt: HostRuntime) {
     let hash = h.finish();
     let mut number = DJB2Hasher::default();
     number.write_u16(25185);
-    let mut sum = LoseLoseHasher::default();
-    sum.unwrite(b"ab");
-    let below = sum.finish();
-    sum.write(b"ab");
     let mut pieces = Lookup3Hasher::fresh();
     run_pieces(&mut pieces, &[b"a", b"", b"b"]);
     same(
@@ -26,56 +22,45 @@ fn worked_examples(rt: HostRuntime) {
         &[
             hash,
             number.finish(),
-            below,
-            sum.finish(),
             pieces.finish(),
             bucket_of::<DJB2Hasher>(b"a", 1000),
         ],
-        &[
-            5860902,
-            5860902,
-            18446744073709551421,
-            0,
-            18104817335149544820,
-            604,
-        ],
+        &[5860902, 5860902, 18104817335149544820, 604],
     );
 }
 
 /// The word 97 by fx, from numbers of each width; at 32 bits eight bytes are two words, the low one first.
 #[test]
 fn words_of_fx(rt: HostRuntime) {
-    let (mut byte, mut pair, mut two) = (
-        FxHasher64::default(),
-        FxHasher64::default(),
-        FxHasher64::default(),
-    );
+    let (mut byte, mut pair) = (FxHasher64::default(), FxHasher64::default());
     byte.write_u8(97);
     pair.write_u16(97);
-    two.write(b"a\0");
-    let (mut words, mut whole) = (FxHasher64::default(), FxHasher64::default());
+    let mut words = FxHasher64::default();
     run_words64(&mut words, &[b"abcdefgh", b"a"]);
-    whole.write(b"abcdefgha");
-    same(
-        &rt,
-        &[byte.finish(), pair.finish(), words.finish()],
-        &[16160435425421689461, two.finish(), whole.finish()],
-    );
-    let (mut halves, mut narrow, mut text) = (
-        FxHasher32::default(),
-        FxHasher32::default(),
-        FxHasher32::default(),
-    );
+    let (mut halves, mut narrow) = (FxHasher32::default(), FxHasher32::default());
     halves.write_u64(97 << 32);
     run_words32(&mut narrow, &[b"abcd", b"", b"ef"]);
-    text.write(b"abcdef");
+    let hash = halves.finish();
+    halves.unwrite_word(97);
     same(
         &rt,
-        &[halves.finish(), narrow.finish()],
-        &[3555066485, text.finish()],
+        &[
+            byte.finish(),
+            pair.finish(),
+            words.finish(),
+            narrow.finish(),
+            hash,
+            halves.finish(),
+        ],
+        &[
+            16160435425421689461,
+            fxhash64(b"a\0"),
+            fxhash64(b"abcdefgha"),
+            fxhash32(b"abcdef"),
+            3555066485,
+            0,
+        ],
     );
-    halves.unwrite_word(97);
-    same(&rt, &[halves.finish()], &[0]);
 }
 
 /// Zeros show in the four words of a short text; from 192 bytes on there are none, and both versions are one.

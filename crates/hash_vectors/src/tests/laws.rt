@@ -5,7 +5,7 @@ use hashers::fnv::Fnv1aRule64;
 use hashers::fx_hash::{FxHasher32, FxHasher64};
 use hashers::jenkins::OaatRule;
 use hashers::laws::{Undo, answer_of_pieces, run_pair};
-use hashers::oz::{Djb2Rule, SdbmRule};
+use hashers::oz::{Djb2Rule, LoseLoseRule, SdbmRule};
 use hashers::pigeon::BricolageRule;
 use hashers::rules::{ByteHasher, Plain, PlainUndo, UndoRule};
 
@@ -53,6 +53,7 @@ fn texts_are_undone(rt: HostRuntime) {
         before_by_plain::<OaatRule>(29161854018, b"a"),
         before_by_plain::<BricolageRule>(16461606921607156355, b"b"),
         before_by_rule::<SdbmRule>(6363201, b"b"),
+        before_by_rule::<LoseLoseRule>(0, b"ab"),
         before::<FxHasher64>(16160435425421689461, b"a"),
         before_by_plain::<Djb2Rule>(177604, b"a"),
         before_by_plain::<Djb2Rule>(4294967296, b""),
@@ -64,6 +65,7 @@ fn texts_are_undone(rt: HostRuntime) {
         Some(0),
         Some(17926483712435944715),
         Some(97),
+        Some(18446744073709551421),
         Some(0),
         Some(5381),
         None,
