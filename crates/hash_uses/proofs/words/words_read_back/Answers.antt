@@ -1,4 +1,4 @@
-use Rattle.std.proofs.Common.{ℕ, ◌≡◌, ◌≤◌, arith, sym, ap, subst, ◌∙◌, inl, inr, get_or, List, Bor}
+use Rattle.std.proofs.Common.{ℕ, ◌≡◌, ◌≤◌, arith, ap, subst, ◌∙◌, inl, inr, get_or, List, Bor}
 use Rattle.std.proofs.lemmas.Bool.{cases_lt}
 use Rattle.std.proofs.lemmas.List.{get_or_default}
 use Rattle.hash_bloom.specs.Filter.{Passes}
