@@ -2,9 +2,9 @@
 ghost use Rattle.std.specs.Prelude.{◌≤◌};
 ghost use Rattle.hash_bloom.specs.Filter.{HasShape};
 
-use crate::tests::{all_hold, all_hold_at, same};
+use crate::tests::{all_hold_at, same};
+use hash_bloom::Bloom;
 use hash_bloom::estimate::nearest_keys;
-use hash_bloom::{Bloom, NoFilter};
 use hashers::jenkins::Lookup3Hasher;
 use hashers::jenkins::spooky_hash::SpookyHasher;
 use std::alloc::{AllocError, Global};
@@ -69,30 +69,6 @@ fn sizes(rt: HostRuntime) {
         };
         all_hold_at(&rt, i, &[bits / 1000 == FEWEST[i], bits % 1000 == 0]);
     }
-}
-
-/// How many keys the ones of a filter of these two words tell of.
-fn told(alloc: Global, first: u64, last: u64, bits: u64, probes: u32) -> Option<u64> {
-    let words = vec![in alloc; first, last].ok()?;
-    match Sample::from_words(words, bits, probes) {
-        Ok(filter) => filter.estimate(),
-        Err(NoFilter { words: _ }) => None,
-    }
-}
-
-/// ln(zeros / bits) / (probes * ln(1 - 1 / bits)), by a program in another language: 90.38, 1.81 and 0. A full filter tells nothing.
-#[test]
-fn estimates(rt: HostRuntime) {
-    let alloc = rt.alloc();
-    all_hold(
-        &rt,
-        &[
-            told(alloc, u64::MAX, 1, 128, 1) == Some(91),
-            told(alloc, 1 << 9 | 31, 1, 100, 4) == Some(2),
-            told(alloc, 0, 0, 100, 4) == Some(0),
-            told(alloc, u64::MAX, u64::MAX, 128, 3) == None,
-        ],
-    );
 }
 
 /// Bits, probes, zeros, and the nearest number of keys, by a program in another language, with whole numbers of any size. The last is the
