@@ -20,7 +20,7 @@ PROGRAMS = {"hashof", "dedup", "hashsum", "cuts", "spread"}
 SOURCES = sorted({crate for crates in RUST_CRATES.values() for crate in crates})
 # The files of tests that go: what the others need is Rattle's std alone, as its maps.
 TESTS = {
-    "buckets", "calls", "filter_files", "filters", "laws", "original", "readers", "ring", "rounds", "sample", "spread", "two_texts",
+    "buckets", "calls", "filter_files", "filters", "laws", "original", "readers", "ring", "rounds", "sample", "two_texts",
     "vectors", "xxh3",
 }
 # Crates of which these files alone are taken: others take memory, read, have laws alone or are for tests.

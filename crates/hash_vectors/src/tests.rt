@@ -14,7 +14,6 @@ mod readers;
 mod ring;
 mod rounds;
 mod sample;
-mod spread;
 mod two_texts;
 mod vectors;
 mod xxh3;
