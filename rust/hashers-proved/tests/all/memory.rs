@@ -545,3 +545,31 @@ fn formatted_behind_bytes() {
     let wanted: String = (0..100).map(|number| format!("éééä{number:>7} ß")).collect();
     assert_eq!(bytes.as_slice(), wanted.as_bytes());
 }
+
+/// The best numbers of probes at 1 to 32 bits a key, by the formula (1 - e^(-k/b))^k in another language.
+const BEST: [u32; 32] =
+    [1, 1, 2, 3, 3, 4, 5, 6, 6, 7, 8, 8, 9, 10, 10, 11, 12, 12, 13, 14, 15, 15, 16, 17, 17, 18, 19, 19, 20, 21, 21, 22];
+/// The fewest bits a key whose share in the table of `for_keys` is at most one in 2^k, for k from 1 to 22.
+const FEWEST: [u64; 22] = [2, 3, 5, 6, 8, 9, 11, 12, 13, 15, 16, 18, 19, 21, 22, 24, 25, 26, 28, 29, 31, 32];
+/// Bits, probes, zeros, and the nearest number of keys, by a program in another language, with whole numbers of any size. The last is the
+/// end of the range.
+const NEAREST: [(u64, u32, u64, u64); 15] = [
+    (1, 1, 1, 0), (2, 1, 1, 1), (2, 7, 1, 0), (64, 1, 1, 265), (64, 7, 32, 6), (64, 30, 1, 9), (1000, 1, 500, 693), (1000, 7, 1, 986),
+    (1000, 1, 1000, 0), (1_000_000, 7, 500_000, 99_021), (1 << 20, 1, 1, 14_536_344), (1 << 20, 30, 1 << 19, 24_227),
+    ((1 << 40) - 5, 7, 12_345, 2_875_204_186_746), (1 << 59, 1, 1 << 58, 399_572_145_162_582_990), (u64::MAX, 1, 1, u64::MAX),
+];
+
+#[test]
+fn sizes_and_estimates() {
+    type Proved = hashers_proved::hash_bloom::Bloom<SpookyHasher, Lookup3Hasher>;
+    for (bits, best) in (1..).zip(BEST) {
+        let filter = Proved::for_keys(Global, 1000, bits).unwrap();
+        assert_eq!((filter.bits(), filter.probes()), (1000 * u64::from(bits), best));
+    }
+    for (share, fewest) in (1..).zip(FEWEST) {
+        assert_eq!(Proved::for_share(Global, 1000, share).unwrap().bits(), 1000 * fewest);
+    }
+    for (bits, probes, zeros, keys) in NEAREST {
+        assert_eq!(hashers_proved::hash_bloom::estimate::nearest_keys(bits, probes, zeros), keys);
+    }
+}

@@ -108,3 +108,63 @@ fn filter_files_are_read_back_or_refused() {
         }
     }
 }
+
+/// The file of the filter of 100 bits and 4 probes that has the key `key`, as a program in another language writes it.
+const FILE: &[u8] = b"hashers-bloom 2 0000000000000064 00000004 spooky lookup3\n\0\x80\0\0\0\0\x08\0\x01\0\0\0\x08\0\0\0\x18\xdd\xda\x85\x86\x26\x35\xae";
+
+/// How a read of a filter's file ends.
+fn ended(r: impl std::io::Read, pair: &str) -> &'static str {
+    match Bloom::<hashers_proved::jenkins::spooky_hash::SpookyHasher, hashers_proved::jenkins::Lookup3Hasher>::read_from(r, pair) {
+        Ok(filter) => ["lost its key", "read"][usize::from(filter.contains("key"))],
+        Err(Unread::Form) => "form",
+        Err(Unread::Version) => "version",
+        Err(Unread::Pair) => "pair",
+        Err(Unread::Hash) => "hash",
+        Err(Unread::Failed(error)) if error.kind() == ErrorKind::UnexpectedEof => "cut",
+        Err(Unread::Failed(_)) => "fault",
+    }
+}
+
+/// Those with the pair `p` have the right hash, and are files of no filter: no bit, no probe, a bit beyond.
+#[test]
+fn filter_files_of_another_program() {
+    let mut changed = FILE.to_vec();
+    changed[69] = 0x0a;
+    for (file, pair, why) in [
+        (FILE, "spooky lookup3", "read"),
+        (FILE, "spooky lookup", "pair"),
+        (FILE, "spooky lookup3 ", "pair"),
+        (FILE, "lookup3 spooky", "pair"),
+        (&FILE[..80], "spooky lookup3", "cut"),
+        (&changed, "spooky lookup3", "hash"),
+        (b"hashers-bloom 2 000000000000006A 00000004 spooky lookup3\n", "spooky lookup3", "form"),
+        (b"hashers-bloom 1 0000000000000064 00000004 spooky lookup3\n", "spooky lookup3", "version"),
+        (b"hashers-bloom 2 ffffffffffffffff 00000004 spooky lookup3\n12345678", "spooky lookup3", "cut"),
+        (b"hashers-bloom 2 0000000000000000 00000004 p\n\xe3\xeb\x29\x17\x93\xc9\xf5\x31", "p", "form"),
+        (b"hashers-bloom 2 0000000000000001 00000000 p\n\x01\0\0\0\0\0\0\0\xb5\x60\x1e\x07\xa3\xcd\xaa\x7e", "p", "form"),
+        (b"hashers-bloom 2 0000000000000001 00000001 p\n\x02\0\0\0\0\0\0\0\x93\x72\x61\x3b\x65\x30\x6b\x5c", "p", "form"),
+    ] {
+        assert_eq!(ended(file, pair), why, "{}", file.escape_ascii());
+    }
+}
+
+/// Reads of a byte, each interrupted once, of which the one behind so many bytes fails.
+#[test]
+fn slow_and_failing_readers() {
+    struct Slow<'a>(&'a [u8], usize, bool);
+    impl std::io::Read for Slow<'_> {
+        fn read(&mut self, to: &mut [u8]) -> std::io::Result<usize> {
+            self.2 = !self.2;
+            if self.2 {
+                return Err(ErrorKind::Interrupted.into());
+            }
+            let Some(left) = self.1.checked_sub(1) else { return Err(ErrorKind::BrokenPipe.into()) };
+            self.1 = left;
+            let one = to.len().min(1);
+            self.0.read(&mut to[..one])
+        }
+    }
+    for good in 0..=FILE.len() {
+        assert_eq!(ended(Slow(FILE, good, false), "spooky lookup3"), if good < FILE.len() { "fault" } else { "read" });
+    }
+}
